@@ -45,9 +45,10 @@ pub record IsFlowAnswered (input output : List ℕ) (ending : Ending) : Type 0 w
 abbrev pub told_words : ProgramSet → List ℕ
 told_words left = if nat_lt MAX_TOLD_WORDS (all_words left) then [] else written_lines (source_lines left)
 
--- What is said of the claim, of the set and the stream that the input says; `seated` is the stream with the ports of the set that stand at its places, `order`
--- has those of its sinks. Where it is proved, the set meets the flow that the stream is when it is unrolled, and each sink has received what
--- it is due of all rows, row by row: with any words in its sources, in each lawful list of its steps that comes to rest, which ends done
+-- What is said of the claim, of the set and the stream that the input says. `seated` is the stream with the ports of the set that stand at its places,
+-- and `order` has those of its sinks. Where it is proved, the set meets the flow that the stream is when it is unrolled. Each sink has received what
+-- it is due of all rows, row by row: with any words in its sources, in each lawful list of its steps that comes to rest, which ends done. Where it is
+-- proved by rows, the line tells no cycles. Where it is proved by one run over all rows, the clock of the set has as many cycles as the line tells.
 pub record IsRowsAnswered (input output : List ℕ) (ending : Ending) : Type 0 where
   pub set : ProgramSet
   pub fed : FedStream

@@ -9,6 +9,7 @@ use Rattle.raw_shell.specs.declared.ending.Ending.TheVariants as ending
 -- it is done where the claim is proved; words that refute it have a status of their own
 abbrev pub prove_ending : Answer → Ending
 prove_ending (said.Proved outs) = ending.Done
+prove_ending (said.ProvedByRows outs) = ending.Done
 prove_ending (said.Refuted words fault) = ending.Refuted
 prove_ending (said.Unproved verdict) = ending.Unproved
 

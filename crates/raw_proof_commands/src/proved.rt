@@ -29,7 +29,7 @@ pub(crate) fn ending_with(said: &Said) -> Ending
     ensures { result ≡ prove_ending said.now }
 {
     match said {
-        Said::Proved(_) => Ending::Done,
+        Said::Proved(_) | Said::ProvedByRows(_) => Ending::Done,
         Said::Refuted { .. } => Ending::Refuted,
         Said::Unproved(_) => Ending::Unproved,
     }

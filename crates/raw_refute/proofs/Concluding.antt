@@ -13,7 +13,7 @@ use Rattle.raw_term.specs.Verdicts.{IsVerdict}
 use Rattle.raw_prove.proofs.Judging.{no_run}
 use Rattle.raw_refute.specs.declared.fault.Fault.{Fault}
 use Rattle.raw_refute.specs.declared.said.Answer.{Answer}
-use Rattle.raw_refute.specs.declared.said.Answer.TheVariants.{Proved, Refuted, Unproved}
+use Rattle.raw_refute.specs.declared.said.Answer.TheVariants.{Proved, ProvedByRows, Refuted, Unproved}
 use Rattle.raw_refute.specs.Judged.{IsJudged}
 use Rattle.raw_refute.specs.Answers.{own_words, OwnWordsAreRight, AreRight, IsProof, IsRefutation, IsOpen, IsAnswer, IsTried}
 use Rattle.raw_refute.proofs.Fed.{own_each, own_stays}
@@ -76,5 +76,6 @@ none_found set flow places left own said right is unproved stays = record {
 -- a refutation that was tried is an answer
 pub tried_is : (set : ProgramSet) (flow : Dataflow) (places : List Place) (left : ProgramSet) (answer : Answer) → IsTried set flow places left (Some answer) → IsAnswer set flow places left answer
 tried_is set flow places left (Proved outs) is = absurd is
+tried_is set flow places left (ProvedByRows outs) is = absurd is
 tried_is set flow places left (Refuted words fault) is = is
 tried_is set flow places left (Unproved verdict) is = absurd is

@@ -1,24 +1,27 @@
 -- What is said of a stream, from what runs and the run with terms say.
 use Rattle.std.proofs.Common.{◌≡◌, ◌⊎◌, inl, inr, ℕ, suc, ◌^◌, ◌<◌, List, [], ◌∷◌, Option, Some, None, length, drop, refl, ap, ◌∙◌, sym, subst}
 use Rattle.std.specs.List.{All}
-use Rattle.raw_model.specs.Program.{ProgramSet, PortProgram, IsSet}
+use Rattle.raw_model.specs.Program.{ProgramSet, PortProgram, IsPortProgram, IsSet}
 use Rattle.raw_model.specs.Bounds.{all_words}
 use Rattle.raw_model.specs.Fed.{fed, fed_ports}
+use Rattle.raw_model.proofs.Fed.{all_at}
 use Rattle.raw_stream.specs.Streams.{Stream}
 use Rattle.raw_term.specs.declared.verdict.Verdict.{Verdict}
 use Rattle.raw_term.specs.declared.verdict.Verdict.TheVariants as verdict
 use Rattle.raw_term.specs.Claims.{AreWords}
+use Rattle.raw_term.proofs.Own.{own_all}
 use Rattle.raw_row_terms.specs.RowClaims.{has_words, takes_in_all, misfed, IsRowsVerdict}
+use Rattle.raw_row_terms.specs.Right.{MeetsRows}
 use Rattle.raw_prove.proofs.RowJudging.{no_run}
 use Rattle.raw_refute.specs.declared.fault.Fault.{Fault}
 use Rattle.raw_refute.specs.declared.said.Answer.{Answer}
-use Rattle.raw_refute.specs.declared.said.Answer.TheVariants.{Proved, Refuted, Unproved}
+use Rattle.raw_refute.specs.declared.said.Answer.TheVariants.{Proved, ProvedByRows, Refuted, Unproved}
 use Rattle.raw_refute.specs.Answers.{own_words}
 use Rattle.raw_refute.specs.RowJudged.{IsRowsJudged}
 use Rattle.raw_row_terms.specs.RowClaims.{IsClaimOf}
 use Rattle.raw_refute.specs.RowAnswers.{OwnRowsAreRight, AreRowsRight, IsRowsRefutation, IsRowsOpen, IsRowsAnswer, IsRowsTried}
 use Rattle.raw_refute.proofs.Fed.{own_each, own_stays}
-use Rattle.raw_refute.proofs.RowRefuting.{rows_refuted}
+use Rattle.raw_refute.proofs.RowRefuting.{rows_met, rows_refuted}
 
 -- other words are words of the same ports
 port_count : (ports : List PortProgram) (words : List ℕ) → length (fed_ports ports words) ≡ length ports
@@ -53,6 +56,13 @@ pub own_refutes : (set : ProgramSet) (s : Stream) (order own : List ℕ) (fault 
     → IsRowsJudged set s order own (Some fault) → IsRowsRefutation set s order set own fault
 own_refutes set s order own fault claim counts e small valid judged =
     refutation_so set s order set own fault claim counts (ap length e ∙ own_each set) small (inl e) (sym (ap (fed set) e ∙ own_stays set)) valid judged
+
+-- a set that computes the rows of all words computes those of its own
+pub own_met : (set : ProgramSet) (s : Stream) (order : List ℕ) → IsSet set → IsClaimOf set s order → MeetsRows set s → OwnRowsAreRight set s order
+own_met set s order valid claim met = λ counts.
+    let own : List ℕ = own_words set in
+    let are : AreWords set own = record { each = own_each set; words = own_all set.ports (all_at IsPortProgram set.ports valid.port_programs) } in
+    subst (λ (g : ProgramSet). IsRowsJudged g s order own None) (own_stays set) (rows_met set s order own (claim_fed set s order own claim) (met own are))
 
 pub are_right : (set : ProgramSet) (s : Stream) (order own : List ℕ) → misfed set s ≡ None → own ≡ own_words set → IsRowsJudged set s order own None → AreRowsRight set s order own
 are_right set s order own counts e judged = record {
@@ -93,5 +103,6 @@ none_found set s order left own said right is unproved stays = record {
 -- a refutation that was tried is an answer
 pub tried_is : (set : ProgramSet) (s : Stream) (order : List ℕ) (left : ProgramSet) (answer : Answer) → IsRowsTried set s order left (Some answer) → IsRowsAnswer set s order left answer
 tried_is set s order left (Proved outs) is = absurd is
+tried_is set s order left (ProvedByRows outs) is = absurd is
 tried_is set s order left (Refuted words fault) is = is
 tried_is set s order left (Unproved verdict) is = absurd is

@@ -19,7 +19,7 @@ use Rattle.raw_stream.specs.Unrolled.{row_words, all_rows}
 use Rattle.raw_stream.specs.Kept.{due_count}
 use Rattle.raw_term.specs.Claims.{AreWords}
 use Rattle.raw_row_terms.specs.RowClaims.{got_at, due_in}
-use Rattle.raw_row_terms.specs.Right.{IsRightInRows, IsRefutedInRows}
+use Rattle.raw_row_terms.specs.Right.{IsRightInRows, IsMetInRows, IsRefutedInRows}
 use Rattle.raw_row_terms.proofs.Placing.{rows_many}
 use Rattle.raw_row_terms.proofs.Counts.{due_long}
 use Rattle.raw_prove.proofs.RowComparing.{same_count}
@@ -67,6 +67,24 @@ right_says set s order words got claim right =
     let same : flat_map got order ≡ due =
     same_in_order got (λ q. due_to s q (all_rows s words)) (length s.sinks) order claim.sinks.within (λ q lt. right q (omega (arith, lt, claim.ports.sinks))) in
     ap (λ o. of_ports o s order due got) (right_counts set s words got right) ∙ ap (λ xs. first_other 0 xs due) same ∙ none_other 0 due
+
+-- nor does a rest that is right say that the stream is false
+none_at : (set : ProgramSet) (s : Stream) (order words : List ℕ) (state : MachineState) → IsSet (fed set words) → IsClaimOf (fed set words) s order → IsRightInRows set s words state
+    → IsRowsFaultOf (fed set words) s order words state None
+none_at set s order words state valid claim right =
+    let machine : ProgramSet = fed set words in
+    record {
+      how = answer.Done;
+      tells = sym right.done;
+      is = sym (right_says machine s order words (got_at set state) claim (λ q lt. right.got q (omega (arith, lt, valid.each_port))));
+    }
+
+-- so no words do of which the set computes the rows
+pub rows_met : (set : ProgramSet) (s : Stream) (order words : List ℕ) → IsClaimOf (fed set words) s order → IsMetInRows set s words → IsRowsJudged (fed set words) s order words None
+rows_met set s order words claim met = record {
+  some = met.some;
+  each = λ steps run. none_at set s order words (end (fed set words) steps) met.valid claim (met.right steps run);
+}
 
 -- a rest with a fault is not right
 wrong_at : (set : ProgramSet) (s : Stream) (order words : List ℕ) (state : MachineState) (fault : Fault) → IsSet (fed set words) → IsClaimOf (fed set words) s order → IsRowsFaultOf (fed set words) s order words state (Some fault)

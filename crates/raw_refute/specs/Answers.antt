@@ -54,9 +54,10 @@ pub record IsOpen (set : ProgramSet) (flow : Dataflow) (places : List Place) (le
   pub own : OwnWordsAreRight set flow places
   pub stays : left ≡ set
 
--- what is said of a claim, and the set that is left
+-- what is said of a claim, and the set that is left; a claim that is no stream has no rows to be proved by
 abbrev pub IsAnswer : ProgramSet → Dataflow → List Place → ProgramSet → Answer → Type 0
 IsAnswer set flow places left (answer.Proved outs) = IsProof set flow places left outs
+IsAnswer set flow places left (answer.ProvedByRows outs) = ⊥
 IsAnswer set flow places left (answer.Refuted words fault) = IsRefutation set flow places left words.items fault
 IsAnswer set flow places left (answer.Unproved verdict) = IsOpen set flow places left verdict
 

@@ -1,9 +1,10 @@
--- What is said of a stream: that it is proved, that words refute it, or neither.
-use Rattle.std.specs.Prelude.{◌≡◌, ◌⊎◌, ℕ, Option, Some, None, List}
+-- What is said of a stream: that it is proved, by rows or by a run over all of them, that words refute it, or neither.
+use Rattle.std.specs.Prelude.{◌≡◌, ◌⊎◌, ℕ, Option, Some, None, List, sum_by}
 use Rattle.raw_model.specs.Program.{ProgramSet}
 use Rattle.raw_model.specs.Fed.{fed}
 use Rattle.raw_stream.specs.Streams.{Stream}
 use Rattle.raw_stream.specs.Unrolled.{unrolled}
+use Rattle.raw_stream.specs.Kept.{due_count}
 use Rattle.raw_term.specs.declared.verdict.Verdict.{Verdict}
 use Rattle.raw_term.specs.declared.verdict.Verdict.TheVariants.{Proved}
 use Rattle.raw_term.specs.Claims.{AreWords, Meets}
@@ -25,14 +26,23 @@ pub record AreRowsRight (set : ProgramSet) (s : Stream) (order own : List ℕ) :
   pub counts : misfed set s ≡ None
   pub right : OwnRowsAreRight set s order
 
--- A stream is proved, and the set stays as it is: with any words in its sources each run ends done, and each sink has received what it is due of
--- them, row by row; so the set meets the flow that the stream is when it is unrolled.
-pub record IsRowsProof (set : ProgramSet) (s : Stream) (order : List ℕ) (left : ProgramSet) (outs : ℕ) : Type 0 where
-  pub verdict : IsRowsVerdict set s order (Proved outs)
+-- The set stays as it is, and meets a stream: with any words in its sources each run ends done, and each sink has received what it is due of them,
+-- row by row. So the set meets the flow that the stream is when it is unrolled, and its own words do not show that the claim is false.
+pub record AreRowsMet (set : ProgramSet) (s : Stream) (order : List ℕ) (left : ProgramSet) : Type 0 where
   pub meets : Meets set (unrolled s)
   pub rows : MeetsRows set s
   pub own : OwnRowsAreRight set s order
   pub stays : left ≡ set
+
+-- a stream is proved by one run with terms over all of its rows
+pub record IsRowsProof (set : ProgramSet) (s : Stream) (order : List ℕ) (left : ProgramSet) (outs : ℕ) : Type 0 where
+  pub verdict : IsRowsVerdict set s order (Proved outs)
+  pub met : AreRowsMet set s order left
+
+-- a stream is proved by rows; its outs are the words that its sinks are due of all rows
+pub record IsProofByRows (set : ProgramSet) (s : Stream) (order : List ℕ) (left : ProgramSet) (outs : ℕ) : Type 0 where
+  pub outs_are : outs ≡ sum_by (due_count s) order
+  pub met : AreRowsMet set s order left
 
 -- Words refute a stream whose rows take as many as there are: each run with them differs from it so. They are the set's own, or those do not
 -- refute it. The set is left with them.
@@ -44,7 +54,7 @@ pub record IsRowsRefutation (set : ProgramSet) (s : Stream) (order : List ℕ) (
   pub refuted : IsRefutedInRows set s words
   pub fed_so : left ≡ fed set words
 
--- the run with terms does not prove the stream, the set's own words do not refute it, and no others were found
+-- the run with terms over all rows does not prove the stream, the set's own words do not refute it, and no others were found
 pub record IsRowsOpen (set : ProgramSet) (s : Stream) (order : List ℕ) (left : ProgramSet) (verdict : Verdict) : Type 0 where
   pub verdict_is : IsRowsVerdict set s order verdict
   pub unproved : (outs : ℕ) → ¬ (verdict ≡ Proved outs)
@@ -54,6 +64,7 @@ pub record IsRowsOpen (set : ProgramSet) (s : Stream) (order : List ℕ) (left :
 -- what is said of a stream, and the set that is left
 abbrev pub IsRowsAnswer : ProgramSet → Stream → List ℕ → ProgramSet → Answer → Type 0
 IsRowsAnswer set s order left (answer.Proved outs) = IsRowsProof set s order left outs
+IsRowsAnswer set s order left (answer.ProvedByRows outs) = IsProofByRows set s order left outs
 IsRowsAnswer set s order left (answer.Refuted words fault) = IsRowsRefutation set s order left words.items fault
 IsRowsAnswer set s order left (answer.Unproved verdict) = IsRowsOpen set s order left verdict
 

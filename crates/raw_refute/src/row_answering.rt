@@ -1,14 +1,16 @@
 //! The answer to a claim of rows: by the set's own words, by terms, and by words that are looked for.
-ghost use Rattle.std.specs.Prelude.{◌≡◌, None, length, IfOk};
+ghost use Rattle.std.specs.Prelude.{◌≡◌, ◌<◌, ◌^◌, None, length, sum_by, IfOk, IfSome};
 ghost use Rattle.raw_model.specs.Program.{IsSet};
 ghost use Rattle.raw_model.specs.Bounds.{all_words};
+ghost use Rattle.raw_stream.specs.Kept.{due_count};
 ghost use Rattle.raw_row_terms.specs.RowClaims.{misfed, IsClaimOf};
-ghost use Rattle.raw_refute.specs.RowAnswers.{AreRowsRight, IsRowsAnswer, IsRowsTried};
+ghost use Rattle.raw_refute.specs.RowAnswers.{AreRowsRight, IsProofByRows, IsRowsAnswer, IsRowsTried};
 
 use crate::answering::{RUN_STEPS, Tried, by_terms, next_list, own_words};
 use crate::feeding::feed;
 use crate::row_judging::judge_rows;
 use crate::said::Answer;
+use raw_lengths::prove_length;
 use raw_model::Set;
 use raw_outcome::Outcome;
 use raw_prove::{Difference, Proof, misfed, prove_rows, words_at};
@@ -152,8 +154,8 @@ fn not_by_own(
     }
 }
 
-// The answer where each port has as many words as all rows take.
-fn answer_fed(
+// The answer by runs over all rows, with the set's own words at first.
+fn by_all_rows(
     alloc: Global,
     set: &mut Set,
     stream: &StreamFlow,
@@ -172,11 +174,64 @@ fn answer_fed(
     }
 }
 
+// How many words these ports are due of all rows. None where they are too many to be counted.
+fn outs_of(stream: &StreamFlow, order: &[u32]) -> Option<u64>
+    requires { length stream.now.outs < 2 ^ 32 }
+    ensures { IfSome result (λ outs. outs ≡ sum_by (due_count stream.now) order.now) }
+{
+    let mut outs: u64 = 0;
+    for port in order {
+        outs = outs.checked_add(stream.due_of(*port as usize))?;
+    }
+    Some(outs)
+}
+
+// How many outs the stream has, where it is proved by rows.
+fn by_rows(
+    alloc: Global,
+    set: &mut Set,
+    stream: &StreamFlow,
+    order: &[u32],
+) -> Result<Option<u64>, AllocError>
+    requires valid { IsSet set.old }
+    requires claim { IsClaimOf set.old stream.now order.now }
+    requires counts { misfed set.old stream.now ≡ None }
+    ensures proof { IfOk result (λ found. IfSome found (λ outs. IsProofByRows set.old stream.now order.now set.new outs)) }
+    ensures stays { IfOk result (λ found. set.new ≡ set.old) }
+{
+    let Some(outs) = outs_of(stream, order) else {
+        return Ok(None);
+    };
+    if prove_length(alloc, set, stream)? {
+        Ok(Some(outs))
+    } else {
+        Ok(None)
+    }
+}
+
+// The answer where each port has as many words as all rows take.
+fn answer_fed(
+    alloc: Global,
+    set: &mut Set,
+    stream: &StreamFlow,
+    order: &[u32],
+) -> Result<Answer, AllocError>
+    requires valid { IsSet set.old }
+    requires claim { IsClaimOf set.old stream.now order.now }
+    requires counts { misfed set.old stream.now ≡ None }
+    ensures { IfOk result (λ answer. IsRowsAnswer set.old stream.now order.now set.new answer) }
+{
+    match by_rows(alloc, set, stream, order)? {
+        Some(outs) => Ok(Answer::ProvedByRows(outs)),
+        None => by_all_rows(alloc, set, stream, order),
+    }
+}
+
 /// Says of a stream, whose ports are numbered as those of the set, that it is proved, or that words refute it, or neither.
 /// The words of its sinks are compared port by port in this order.
 ///
-/// It is decided as `answer` decides of a claim, but that first the words of each port are counted. Behind `Refuted` the
-/// set has the words that refute the stream; behind the others it is as it was.
+/// First the words of each port are counted. Where the stream is not proved by rows, it is decided as `answer` decides of a
+/// claim. Behind `Refuted` the set has the words that refute the stream; behind the others it is as it was.
 pub fn answer_rows(
     alloc: Global,
     set: &mut Set,

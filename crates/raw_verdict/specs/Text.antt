@@ -55,8 +55,10 @@ unfoldable pub words_text : Fault → List ℕ
 words_text (fault.Out out word claim) = codes "word " ++ word_text word ++ codes "\nclaim " ++ word_text claim ++ codes "\n"
 words_text _ = []
 
--- what is said of a claim of a set of so many cycles, where they are told; `words` are the lines of the words with which the set is left
+-- What is said of a claim of a set of so many cycles, where they are told; what is proved by rows tells none. `words` are the lines of the words
+-- with which the set is left.
 abbrev pub answer_text : Option ℕ → List ℕ → Answer → List ℕ
 answer_text cycles words (answer.Proved outs) = proved_text outs cycles
+answer_text cycles words (answer.ProvedByRows outs) = proved_text outs None
 answer_text cycles words (answer.Refuted inputs fault) = fault_text fault ++ words ++ words_text fault
 answer_text cycles words (answer.Unproved verdict) = verdict_text None verdict

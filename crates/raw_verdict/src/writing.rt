@@ -17,10 +17,10 @@ fn write_verdict<K: Sink>(verdict: Verdict, out: &mut K) -> Result<(), Failed>
 }
 
 // Writes the line of a claim of so many outs that is proved, and of so many cycles, where they are told.
-fn write_proved<K: Sink>(outs: usize, cycles: Option<u64>, out: &mut K) -> Result<(), Failed>
+fn write_proved<K: Sink>(outs: u64, cycles: Option<u64>, out: &mut K) -> Result<(), Failed>
     ensures { Writes (K.sight out.old) (K.sight out.new) (proved_text outs cycles) result }
 {
-    put_line(&proved_text(outs as u64, cycles), out)
+    put_line(&proved_text(outs, cycles), out)
 }
 
 // Writes how a run differs from a claim, the lines of its words, and the two words that differ.
@@ -32,8 +32,8 @@ fn write_refutation<K: Sink>(fault: Fault, words: &[u8], out: &mut K) -> Result<
     put_each(out, &[first.as_bytes(), words, last.as_bytes()])
 }
 
-/// Writes what is said of a claim. Where it is proved, the line tells so many cycles, where they are given. `words` are the
-/// lines of the words with which the set is left; they stand in a refutation alone. It takes no memory.
+/// Writes what is said of a claim. Where it is proved, but not by rows, the line tells so many cycles, where they are given.
+/// `words` are the lines of the words with which the set is left; they stand in a refutation alone. It takes no memory.
 ///
 /// After `Failed` a front of the text is appended, never all of it.
 pub fn write_answer<K: Sink>(
@@ -45,7 +45,8 @@ pub fn write_answer<K: Sink>(
     ensures { Writes (K.sight out.old) (K.sight out.new) (answer_text cycles words.now answer.now) result }
 {
     match answer {
-        Answer::Proved(outs) => write_proved(*outs, cycles, out),
+        Answer::Proved(outs) => write_proved(*outs as u64, cycles, out),
+        Answer::ProvedByRows(outs) => write_proved(*outs, None, out),
         Answer::Refuted { fault, .. } => write_refutation(*fault, words, out),
         Answer::Unproved(verdict) => write_verdict(*verdict, out),
     }

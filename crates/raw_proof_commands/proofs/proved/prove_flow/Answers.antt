@@ -4,7 +4,7 @@ use Rattle.raw_flow.specs.Flows.{Dataflow}
 use Rattle.raw_term.specs.declared.place.Place.{Place}
 use Rattle.raw_steady.specs.Count.{cycle_count}
 use Rattle.raw_refute.specs.declared.said.Answer.{Answer}
-use Rattle.raw_refute.specs.declared.said.Answer.TheVariants.{Proved, Refuted, Unproved}
+use Rattle.raw_refute.specs.declared.said.Answer.TheVariants.{Proved, ProvedByRows, Refuted, Unproved}
 use Rattle.raw_refute.specs.Answers.{IsProof, IsAnswer}
 use Rattle.raw_verdict.specs.Text.{answer_text}
 use Rattle.raw_shell.specs.Seen.{sink_seen}
@@ -18,6 +18,7 @@ use Rattle.raw_proof_commands.proofs.proved.prove_flow.Goals as goal
 same_count : (set left : ProgramSet) (flow : Dataflow) (places : List Place) (words : List ℕ) (said : Answer) → IsAnswer set flow places left said
     → answer_text (Some (cycle_count left)) words said ≡ answer_text (Some (cycle_count set)) words said
 same_count set left flow places words (Proved outs) is = ap (λ (s : ProgramSet). answer_text (Some (cycle_count s)) words (Proved outs)) is.stays
+same_count set left flow places words (ProvedByRows outs) is = refl
 same_count set left flow places words (Refuted inputs fault) is = refl
 same_count set left flow places words (Unproved verdict) is = refl
 

@@ -4,7 +4,7 @@ use Rattle.raw_stream.specs.Streams.{Stream}
 use Rattle.raw_stream_text.specs.Streams.{FedStream}
 use Rattle.raw_steady.specs.Count.{cycle_count}
 use Rattle.raw_refute.specs.declared.said.Answer.{Answer}
-use Rattle.raw_refute.specs.declared.said.Answer.TheVariants.{Proved, Refuted, Unproved}
+use Rattle.raw_refute.specs.declared.said.Answer.TheVariants.{Proved, ProvedByRows, Refuted, Unproved}
 use Rattle.raw_row_terms.specs.RowClaims.{IsClaimOf}
 use Rattle.raw_refute.specs.RowAnswers.{IsRowsProof, IsRowsAnswer}
 use Rattle.raw_verdict.specs.Text.{answer_text}
@@ -18,7 +18,8 @@ use Rattle.raw_proof_commands.proofs.row_proved.prove_stream.Goals as goal
 -- a set of which a stream is proved is left as it was
 same_count : (set left : ProgramSet) (s : Stream) (order words : List ℕ) (said : Answer) → IsRowsAnswer set s order left said
     → answer_text (Some (cycle_count left)) words said ≡ answer_text (Some (cycle_count set)) words said
-same_count set left s order words (Proved outs) is = ap (λ (g : ProgramSet). answer_text (Some (cycle_count g)) words (Proved outs)) is.stays
+same_count set left s order words (Proved outs) is = ap (λ (g : ProgramSet). answer_text (Some (cycle_count g)) words (Proved outs)) is.met.stays
+same_count set left s order words (ProvedByRows outs) is = refl
 same_count set left s order words (Refuted inputs fault) is = refl
 same_count set left s order words (Unproved verdict) is = refl
 
@@ -52,7 +53,7 @@ returns g c = λ input meant.
       says = is;
       takes = λ outs e words are.
           let proof = proof_of set left s order said outs is e in
-          let valid : IsSet set = subst IsSet proof.stays c.cycles_told.ensures.valid in
+          let valid : IsSet set = subst IsSet proof.met.stays c.cycles_told.ensures.valid in
           let rests = c.law_rows_right.ensures.rest set s order outs proof.verdict in
           c.law_words.ensures.keeps set rests.0 (cycle_count set) words valid rests.1 are (c.law_count.ensures.has set valid);
       written = c.in-Ok-cycles_told.ensures.told words ∙ same_count set left s order words said is

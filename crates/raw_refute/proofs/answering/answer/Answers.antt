@@ -1,10 +1,8 @@
 use Rattle.std.proofs.Common.{◌≡◌, ◌∙◌, ◌<◌, ◌^◌, Some, None, Option, List, ℕ, sym, ap, length, subst}
 use Rattle.std.specs.List.{All}
 use Rattle.raw_model.specs.Bounds.{all_words}
-use Rattle.raw_flow.specs.Flows.{inputs_in}
 use Rattle.raw_refute.specs.declared.fault.Fault.{Fault}
 use Rattle.raw_refute.specs.Judged.{IsJudged}
-use Rattle.raw_refute.specs.Answers.{own_words}
 use Rattle.raw_refute.proofs.Fed.{own_each}
 use Rattle.raw_refute.proofs.Concluding.{own_refutes, are_right, counts_differ}
 use Rattle.raw_refute.proofs.answering.answer.Goals as goal

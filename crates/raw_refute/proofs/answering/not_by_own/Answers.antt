@@ -1,5 +1,5 @@
-use Rattle.std.proofs.Common.{Some, None, refl, subst}
-use Rattle.raw_refute.specs.Answers.{IsTried, IsAnswer}
+use Rattle.std.proofs.Common.{refl, subst}
+use Rattle.raw_refute.specs.Answers.{IsTried}
 use Rattle.raw_term.specs.Verdicts.{IsVerdict}
 use Rattle.raw_refute.proofs.Refuting.{done_so}
 use Rattle.raw_refute.proofs.Concluding.{none_found, tried_is}

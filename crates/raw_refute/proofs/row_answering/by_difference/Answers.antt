@@ -1,4 +1,4 @@
-use Rattle.std.proofs.Common.{◌≡◌, ◌∙◌, Option, length, ℕ, subst}
+use Rattle.std.proofs.Common.{◌≡◌, ◌∙◌, length, subst}
 use Rattle.std.specs.Prelude.{IfSome}
 use Rattle.raw_refute.proofs.RowConcluding.{own_count}
 use Rattle.raw_refute.proofs.row_answering.by_difference.Goals as goal

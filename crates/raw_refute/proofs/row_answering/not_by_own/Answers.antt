@@ -1,5 +1,5 @@
-use Rattle.std.proofs.Common.{Some, None, refl, subst}
-use Rattle.raw_refute.specs.RowAnswers.{IsRowsTried, IsRowsAnswer}
+use Rattle.std.proofs.Common.{refl, subst}
+use Rattle.raw_refute.specs.RowAnswers.{IsRowsTried}
 use Rattle.raw_term.specs.declared.verdict.Verdict.TheVariants.{Proved}
 use Rattle.raw_row_terms.specs.RowClaims.{IsRowsVerdict}
 use Rattle.raw_refute.proofs.RowRefuting.{rows_done}
@@ -15,10 +15,12 @@ returns-in-Proved c =
     subst (IsRowsVerdict c.args.set.now c.args.stream.now c.args.order.now) c.in-Proved.is c.in_ok-proof.ensures.verdict in
     record {
       verdict = said;
-      meets = c.in_ok-proof.ensures.meets c.in-Proved.outs c.in-Proved.is;
-      rows = c.law_rows_right.ensures.right c.args.set.now c.args.stream.now c.args.order.now c.in-Proved.outs c.requires.valid c.requires.claim.rows c.requires.claim.ports c.requires.claim.sinks said;
-      own = c.requires.right.right;
-      stays = refl;
+      met = record {
+        meets = c.in_ok-proof.ensures.meets c.in-Proved.outs c.in-Proved.is;
+        rows = c.law_rows_right.ensures.right c.args.set.now c.args.stream.now c.args.order.now c.in-Proved.outs c.requires.valid c.requires.claim.rows c.requires.claim.ports c.requires.claim.sinks said;
+        own = c.requires.right.right;
+        stays = refl;
+      };
     }
 
 pub returns-in-Some : goal.returns-in-Some

@@ -5,7 +5,7 @@ use Rattle.raw_refute.specs.declared.fault.Fault.{Fault}
 use Rattle.raw_refute.specs.RowJudged.{IsRowsJudged}
 use Rattle.raw_refute.proofs.Fed.{own_each}
 use Rattle.raw_refute.proofs.RowConcluding.{own_refutes, are_right}
-use Rattle.raw_refute.proofs.row_answering.answer_fed.Goals as goal
+use Rattle.raw_refute.proofs.row_answering.by_all_rows.Goals as goal
 
 pub judge_rows-requires-clause-few : goal.judge_rows-requires-clause-few
 judge_rows-requires-clause-few c = omega (arith, words_are c.args.set.now c.args.stream.now c.requires.claim.ports c.requires.counts, c.requires.valid.totals.words)
