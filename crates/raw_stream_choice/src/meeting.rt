@@ -1,6 +1,7 @@
 //! Whether a set is proved to meet a stream.
 ghost use Rattle.std.specs.Prelude.{◌≡◌, ◌<◌, ◌^◌, true, length, IfOk, IfSome};
 ghost use Rattle.std.specs.List.{range_with_len};
+ghost use Rattle.raw_model.specs.Program.{IsSet};
 ghost use Rattle.raw_stream.specs.Unrolled.{unrolled};
 ghost use Rattle.raw_stream.specs.Kept.{IsStream};
 ghost use Rattle.raw_term.specs.Claims.{Meets};
@@ -9,8 +10,9 @@ ghost use Rattle.raw_stream_choice.specs.PortNumbers.{numbered};
 
 use crate::numbered::{numbered, sinks_of};
 use crate::ports::has_few_outs;
+use raw_lengths::prove_length;
 use raw_model::Set;
-use raw_prove::{outcome_of, prove_rows};
+use raw_prove::{misfed, outcome_of, prove_rows};
 use raw_stream::StreamFlow;
 use raw_term::Verdict;
 use std::alloc::{AllocError, Global};
@@ -26,7 +28,28 @@ pub(crate) fn few(ports: usize) -> Option<u16>
     }
 }
 
-// Whether a set is proved to meet a stream, of which this is the twin with the numbers of the ports of the set.
+// Whether a set is proved by rows to meet a stream, of which this is the twin with the numbers of the ports of the set.
+fn is_proved_by_rows(
+    alloc: Global,
+    set: &mut Set,
+    stream: &StreamFlow,
+    twin: &StreamFlow,
+) -> Result<bool, AllocError>
+    requires valid { IsSet set.old }
+    requires stream { IsStream stream.now }
+    requires few { length stream.now.outs < 2 ^ 32 }
+    requires grid { set.old.topo ≡ stream_topo stream.now }
+    requires twin { twin.now ≡ numbered stream.now }
+    ensures meets { IfOk result (λ is. is ≡ true → Meets set.old (unrolled stream.now)) }
+    ensures stays { IfOk result (λ is. set.new ≡ set.old) }
+{
+    match misfed(set, twin) {
+        Some(_) => Ok(false),
+        None => prove_length(alloc, set, twin),
+    }
+}
+
+// Whether a run with terms over all rows proves it.
 fn is_twin_proved(
     alloc: Global,
     set: &Set,
@@ -50,11 +73,41 @@ fn is_twin_proved(
     }
 }
 
-/// Whether a set for a stream is proved to meet the flow that the stream is when it is unrolled.
-pub(crate) fn is_proved(alloc: Global, set: &Set, stream: &StreamFlow) -> Result<bool, AllocError>
+// Whether it is proved by rows, or else by a run with terms over all of them.
+fn is_either_proved(
+    alloc: Global,
+    set: &mut Set,
+    stream: &StreamFlow,
+    twin: &StreamFlow,
+    sinks: &[u32],
+) -> Result<bool, AllocError>
+    requires valid { IsSet set.old }
     requires stream { IsStream stream.now }
-    requires grid { set.now.topo ≡ stream_topo stream.now }
-    ensures { IfOk result (λ is. is ≡ true → Meets set.now (unrolled stream.now)) }
+    requires few { length stream.now.outs < 2 ^ 32 }
+    requires grid { set.old.topo ≡ stream_topo stream.now }
+    requires twin { twin.now ≡ numbered stream.now }
+    requires sinks { sinks.now ≡ range_with_len (length stream.now.sources) (length stream.now.sinks) }
+    ensures meets { IfOk result (λ is. is ≡ true → Meets set.old (unrolled stream.now)) }
+    ensures stays { IfOk result (λ is. set.new ≡ set.old) }
+{
+    if is_proved_by_rows(alloc, set, stream, twin)? {
+        return Ok(true);
+    }
+    is_twin_proved(alloc, set, stream, twin, sinks)
+}
+
+/// Whether a set for a stream is proved to meet the flow that the stream is when it is unrolled. It is left as it was, but
+/// where memory is wanting.
+pub(crate) fn is_proved(
+    alloc: Global,
+    set: &mut Set,
+    stream: &StreamFlow,
+) -> Result<bool, AllocError>
+    requires valid { IsSet set.old }
+    requires stream { IsStream stream.now }
+    requires grid { set.old.topo ≡ stream_topo stream.now }
+    ensures meets { IfOk result (λ is. is ≡ true → Meets set.old (unrolled stream.now)) }
+    ensures stays { IfOk result (λ is. set.new ≡ set.old) }
 {
     if !has_few_outs(stream) {
         return Ok(false);
@@ -67,7 +120,7 @@ pub(crate) fn is_proved(alloc: Global, set: &Set, stream: &StreamFlow) -> Result
     };
     let order = sinks_of(alloc, sources, sinks)?;
     match numbered(alloc, stream, sources) {
-        Ok(Some(twin)) => is_twin_proved(alloc, set, stream, &twin, &order),
+        Ok(Some(twin)) => is_either_proved(alloc, set, stream, &twin, &order),
         Ok(None) => Ok(false),
         Err(failure) => Err(failure),
     }
