@@ -233,7 +233,7 @@ class Looks:
         run = self.run(["prove"], data)
         if self.is_refused("a claim", run, data, KINDS["claim"]):
             return self.expect(not valid, "a claim that is valid", run, data)
-        due = {0: re.compile(rb"proved \d+ cycles \d+\n"), 12: UNPROVED, 13: REFUTED}.get(run.status)
+        due = {0: re.compile(rb"proved \d+( cycles \d+)?\n"), 12: UNPROVED, 13: REFUTED}.get(run.status)
         right = due and due.fullmatch(run.out)
         self.expect(right and not run.err and not (valid and run.status), "a claim", run, data)
         self.tally.count("a claim taken")

@@ -11,7 +11,7 @@ ROOT = os.path.dirname(os.path.dirname(os.path.dirname(os.path.abspath(__file__)
 PROGRAM = f"{ROOT}/crates/rawgrid/out/rawgrid"
 SPECIAL = [0, 1, 2, 31, 32, 0x7FFF, 0x8000, 0xFFFF, 0x10000, 0x7FFFFFFF, 0x80000000, MASK - 1, MASK]
 VERDICT = re.compile(
-    r"(proved \d+ cycles \d+|unproved at \d+: .* hangs on an input|unproved: (inputs \d+ for \d+|out \d+|too many terms)"
+    r"(proved \d+(?: cycles \d+)?|unproved at \d+: .* hangs on an input|unproved: (inputs \d+ for \d+|out \d+|too many terms)"
     r"|refuted: (outcome [a-z ]+|words \d+ for \d+|out \d+)(\n(feed|word|claim) .*)*)\n"
 )
 STATUSES = {"proved": 0, "unproved": 12, "unproved:": 12, "refuted:": 13}
