@@ -261,6 +261,19 @@ impl Copies<'_> {
         steps.saturating_mul(2)
     }
 
+    // Keeps a copy of the machine where it stands, where copies are kept and the last one stands before it.
+    fn keep_here(&mut self, walk: &Walk<'_>)
+        requires under_way { IsUnderWay walk.now }
+        requires copies { AreOn walk.now.machine.set self.old.walks.items }
+        ensures { AreOn walk.now.machine.set self.new.walks.items }
+    {
+        if let Some(at) = self.last_moment() {
+            if at < walk.moment {
+                let _steps = self.keep_next(walk, 0);
+            }
+        }
+    }
+
     /// Takes the machine to the end of the serial order, and keeps copies on the way, at like distances. Where none is free,
     /// each other one is given up, and the distance is doubled.
     pub(crate) fn go_to_rest(&mut self, walk: &mut Walk<'_>)
@@ -370,7 +383,8 @@ impl Copies<'_> {
     }
 
     /// Looks for the latest step of the way so far that does what is aimed at, from the last copy on, then from the one
-    /// before it up to that, and so on. The machine ends where it looked last.
+    /// before it up to that, and so on. The machine ends where it looked last. Where copies are kept, one is kept of where it
+    /// stood, to which it goes back where there is no such step.
     pub(crate) fn latest(&mut self, walk: &mut Walk<'_>, proc: ProcId, aim: Aim) -> Option<u64>
         requires there { proc.0 < proc_count walk.old.machine.set.topo }
         requires possible { IsPossibleAim walk.old.machine.set proc.0 aim }
@@ -383,6 +397,7 @@ impl Copies<'_> {
         ensures latest { last_up_to walk.old.machine.set walk.old.moment proc.0 aim ≡ result }
         ensures within { IfSome result (λ n. n ≤ walk.old.moment) }
     {
+        self.keep_here(walk);
         let mut high = walk.moment;
         let mut left = self.kept;
         'copies: while left > 0 {

@@ -4,13 +4,13 @@ use Rattle.raw_debug.specs.Stops.{last_up_to}
 use Rattle.raw_debug.proofs.copies.Copies.latest.Goals as goal
 
 pub look_from-look-requires-clause-copies : goal.look_from-look-requires-clause-copies
-look_from-look-requires-clause-copies c = subst (λ g. AreOn g c.args.self.now.walks.items) (sym c.copies.invariant.same) c.requires.copies
+look_from-look-requires-clause-copies c = subst (λ g. AreOn g c.keep_here.new.self.walks.items) (sym c.copies.invariant.same) c.keep_here.ensures
 
 pub returns-then-is_some-clause-copies : goal.returns-then-is_some-clause-copies
-returns-then-is_some-clause-copies c = subst (λ g. AreOn g c.args.self.now.walks.items) (sym (c.look_from-look.ensures.set ∙ c.copies.invariant.same)) c.requires.copies
+returns-then-is_some-clause-copies c = subst (λ g. AreOn g c.keep_here.new.self.walks.items) (sym (c.look_from-look.ensures.set ∙ c.copies.invariant.same)) c.keep_here.ensures
 
 pub look_first-requires-clause-copies : goal.look_first-requires-clause-copies
-look_first-requires-clause-copies c = subst (λ g. AreOn g c.args.self.now.walks.items) (sym c.copies.invariant.same) c.requires.copies
+look_first-requires-clause-copies c = subst (λ g. AreOn g c.keep_here.new.self.walks.items) (sym c.copies.invariant.same) c.keep_here.ensures
 
 pub returns-clause-latest : goal.returns-clause-latest
 returns-clause-latest c =
