@@ -10,9 +10,8 @@ use Rattle.raw_grid.specs.Wires.{producer_of, consumer_of}
 use Rattle.raw_model.specs.Program.{ProgramSet, IsSet}
 use Rattle.raw_model.specs.Machine.{machine_of}
 use Rattle.raw_model.specs.Start.{MachineState, Fits}
-use Rattle.raw_model.specs.Rest.{enabled, step, passed_on, end_from, IsLawfulFrom, IsQuiet}
+use Rattle.raw_model.specs.Rest.{enabled, step, passed_on, end_from, IsLawfulFrom}
 use Rattle.raw_model.specs.Laws.{received_on}
-use Rattle.raw_model.specs.Serial.{serial}
 use Rattle.raw_model.proofs.Fitting.{step_fits}
 use Rattle.raw_serial.specs.Running.{Running}
 use Rattle.raw_serial.specs.Within.{register_in, state_behind, HasRunWithin}
@@ -20,10 +19,10 @@ use Rattle.raw_serial.proofs.Alone.{behind_more}
 use Rattle.raw_debug.specs.declared.command.Aim.{Aim}
 use Rattle.raw_debug.specs.declared.command.Aim.TheVariants.{Sends, SendsAny, Sets, SetsAny}
 use Rattle.raw_debug.specs.declared.walk.Walk.{Walk}
-use Rattle.raw_debug.specs.Walking.{AtDone, NoneElse, HasGone, IsUnderWay, HasGoneOn, HasStayed, HasEnded}
+use Rattle.raw_debug.specs.Walking.{AtDone, NoneElse, HasGone, IsUnderWay, HasGoneOn}
 use Rattle.raw_debug.specs.Stops.{is_of, is_stop, sight_of, shows, IsSeenIn, OnlyLast}
 use Rattle.raw_debug.specs.Debugging.{IsPossibleAim}
-use Rattle.raw_debug.proofs.Walks.{moved_at, gone_done, rests_done, moment_within, moment_at_rest}
+use Rattle.raw_debug.proofs.Walks.{moved_at, gone_done, moment_within}
 use Rattle.raw_debug.proofs.Alone.{wires_stay, goes_alone}
 use Rattle.raw_debug.proofs.Searching.{met}
 
@@ -177,51 +176,4 @@ module _ (old : Walk) (new : Running) (p register n : ℕ) (run : HasRunWithin o
         only_last = record {
           others = λ k low high. other (k - old.moment) k (omega (arith, low)) (omega (arith, low, high));
           last = λ k is. end n k refl is;
-        }
-
--- One step more, where the walk stayed before it.
-module _ (old mid new : Walk) (stays : HasStayed old mid) (valid : IsSet mid.machine.set) (same : new.machine.set ≡ mid.machine.set) where
-  pub has_ended : ((done : List ℕ) → AtDone mid done → AtDone new done × IsQuiet new.machine.set new.machine.state) → new.moment ≡ mid.moment → HasEnded old new
-  has_ended rests moment =
-      let way = stays.under_way in
-      let rest = rests way.0 way.1.at in
-      let has = rests_done mid new same way.0 rest.0 moment way.1 in
-      record {
-        set = same ∙ stays.set;
-        under_way = (way.0, has);
-        moment = moment ∙ stays.moment;
-        end = moment_at_rest new (subst IsSet (sym same) valid) way.0 has rest.1 ∙ ap (λ g. length (serial g)) (same ∙ stays.set);
-      }
-
-  module _ (q : ℕ) (by : (done : List ℕ) → AtDone mid done → HasGone mid new q done) (one : new.moment ≡ mid.moment + 1) where
-    pub one_gone : (moment : ℕ) → HasGoneOn old new moment
-    one_gone moment =
-        let way = stays.under_way in
-        let has = gone_done mid new same q way.0 (by way.0 way.1.at) one way.1 in
-        let within = moment_within new (subst IsSet (sym same) valid) (way.0 ++ q ∷ []) has in
-        let long = ap (λ g. length (serial g)) (same ∙ stays.set) in
-        record {
-          set = same ∙ stays.set;
-          under_way = (way.0 ++ q ∷ [], has);
-          later = omega (arith, one, stays.moment);
-          upto = λ less. omega (arith, less, one, stays.moment);
-          within = omega (arith, within, long);
-        }
-
-    pub one_seen : (wired : IsWired (machine_of mid.machine.set) (producer_of mid.machine.set.topo) (consumer_of mid.machine.set.topo))
-        → SendsOnce (machine_of mid.machine.set)
-        → ((s : MachineState) (h : List ℕ) (w : ℕ) → IsLawfulFrom mid.machine.set s h → w < length s.wires
-        → values_on s.wires w ++ passed_on mid.machine.set s h w ≡ received_on mid.machine.set s h w ++ values_on (end_from mid.machine.set s h).wires w)
-        → Fits mid.machine.set mid.machine.state → (p : ℕ) (aim : Aim) → IsPossibleAim old.machine.set p aim → OnlyLast old new q p aim
-    one_seen wired once queue fits p aim possible =
-        let way = stays.under_way in
-        let stop = met mid new valid same way.0 way.1 q (by way.0 way.1.at) one wired once queue fits p aim
-        (subst (λ g. IsPossibleAim g p aim) (sym stays.set) possible) in
-        record {
-          others = λ k low high. absurd (omega (arith, low, high, one, stays.moment));
-          last = λ k is.
-              let here : mid.moment ≡ k = omega (arith, is, one) in
-              subst (λ j. is_stop old.machine.set p aim j ≡ ((q == p) && shows new.machine.state p aim (sight_of old.machine.state p aim))) here
-              (ap (λ g. is_stop g p aim mid.moment) (sym stays.set) ∙ stop
-              ∙ ap (λ s. (q == p) && shows new.machine.state p aim (sight_of s p aim)) stays.state);
         }

@@ -11,6 +11,7 @@ pub mod Leading
 pub mod Growing
 pub mod Searching
 pub mod Ahead
+pub mod Past
 pub mod Seen
 pub mod Stopping
 pub mod Echoing

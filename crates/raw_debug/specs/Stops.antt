@@ -136,3 +136,14 @@ pub record OnlyLast (old new : Walk) (q p : ℕ) (aim : Aim) : Type 0 where
   pub others : (k : ℕ) → old.moment ≤ k → k + 1 < new.moment → is_stop old.machine.set p aim k ≡ false
   pub last : (k : ℕ) → k + 1 ≡ new.moment →
       is_stop old.machine.set p aim k ≡ ((q == p) && shows new.machine.state p aim (sight_of old.machine.state p aim))
+
+-- What is to be seen of it stays where another processor takes a step.
+abbrev pub IsLocal : Aim → Type 0
+IsLocal (Sends wire value) = ⊥
+IsLocal (SendsAny wire) = ⊥
+IsLocal _ = Unit {0}
+
+-- The same; and where the last step is one of another processor, what is to be seen of processor p is what it was.
+pub record GoesPast (old new : Walk) (q p : ℕ) (aim : Aim) : Type 0 where
+  pub seen : OnlyLast old new q p aim
+  pub same : (q ≡ p → ⊥) → IsLocal aim → sight_of new.machine.state p aim ≡ sight_of old.machine.state p aim

@@ -1,6 +1,7 @@
 //! The commands of a script.
-ghost use Rattle.std.specs.Prelude.{◌≡◌, ℕ, List};
+ghost use Rattle.std.specs.Prelude.{◌≡◌, ℕ, List, true};
 ghost use Rattle.raw_debug.specs.Commands.{led_to, led_by, meant};
+ghost use Rattle.raw_debug.specs.Stops.{IsLocal};
 
 use raw_grid::{ProcId, WireId};
 
@@ -79,6 +80,23 @@ pub(crate) enum Reading {
     Echoes,
     /// It is no command.
     Outside,
+}
+
+impl Aim {
+    /// Whether what is to be seen of it stays where another processor takes a step. What is on a wire does not.
+    #[inline(always)]
+    pub(crate) fn is_local(self) -> bool
+        ensures { result ≡ true → IsLocal self }
+    {
+        match self {
+            Aim::Sends { .. } | Aim::SendsAny { .. } => false,
+            Aim::Pc { .. }
+            | Aim::Stores { .. }
+            | Aim::StoresAny { .. }
+            | Aim::Sets { .. }
+            | Aim::SetsAny { .. } => true,
+        }
+    }
 }
 
 impl Command {

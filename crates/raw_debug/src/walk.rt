@@ -11,7 +11,7 @@ ghost use Rattle.raw_processor.specs.Processor.{local_of};
 ghost use Rattle.raw_processor.specs.Given.{taken_by, sent_by as sent_from};
 ghost use Rattle.raw_serial.specs.Within.{IsWithin};
 ghost use Rattle.raw_debug.specs.Walking.{moment_of, sent_by, led, AtDone, IsUnderWay, IsFresh, HasStepped, HasPassed, HasGone, HasGoneOn, HasStayed, HasEnded};
-ghost use Rattle.raw_debug.specs.Stops.{has_pc, word_in, stop_after, last_up_to, sight_of, shows, IsSeenIn, OnlyLast};
+ghost use Rattle.raw_debug.specs.Stops.{has_pc, word_in, stop_after, last_up_to, sight_of, shows, IsSeenIn, IsLocal, OnlyLast, GoesPast};
 ghost use Rattle.raw_debug.specs.Sending.{IsSent};
 ghost use Rattle.raw_debug.specs.Debugging.{IsPossibleAim};
 
@@ -245,24 +245,70 @@ impl Walk<'_> {
         true
     }
 
-    // The same, and says whose the last step was. None of the others is one of `proc` that does what is aimed at.
+    // Takes the next step of the serial order, and says whose it was, if there was one. A step of another processor leaves
+    // what is to be seen of `proc`.
     #[inline(always)]
-    fn advance_to_sight(&mut self, moment: u64, proc: ProcId, aim: Aim) -> Option<ProcId>
+    fn advance_by_one(&mut self, moment: u64, proc: ProcId, aim: Aim) -> Option<ProcId>
         requires under_way { IsUnderWay self.old }
-        requires there { proc.0 < proc_count self.old.machine.set.topo }
+        requires possible { IsPossibleAim self.old.machine.set proc.0 aim }
+        ensures gone { IfSome result (λ _. HasGoneOn self.old self.new moment) }
+        ensures stays { result ≡ None → HasStayed self.old self.new }
+        ensures rests { result ≡ None → HasEnded self.old self.new }
+        ensures past { IfSome result (λ q. GoesPast self.old self.new q.0 proc.0 aim) }
+    {
+        law_wired();
+        law_queues();
+        let _set = self.machine.set();
+        let stepped = self.advance()?;
+        Some(stepped)
+    }
+
+    // Whether the step of a processor was one of another than `proc` that leaves what is to be seen of `proc`, and the next one
+    // may be taken in the same way.
+    #[inline(always)]
+    fn is_past(&self, stepped: ProcId, moment: u64, proc: ProcId, aim: Aim) -> bool
+        ensures other { result ≡ true → stepped.0 ≡ proc.0 → ⊥ }
+        ensures local { result ≡ true → IsLocal aim }
+        ensures before { result ≡ true → self.now.moment < moment }
+    {
+        stepped.0 != proc.0 && aim.is_local() && !self.alone && self.moment < moment
+    }
+
+    // Takes the next step of the serial order, and further ones up to a moment, as long as they are steps of others and leave
+    // what is to be seen of `proc`. Says whose the last one was, if there was any.
+    #[inline(always)]
+    fn advance_past(&mut self, moment: u64, proc: ProcId, aim: Aim) -> Option<ProcId>
+        requires under_way { IsUnderWay self.old }
         requires possible { IsPossibleAim self.old.machine.set proc.0 aim }
         ensures gone { IfSome result (λ _. HasGoneOn self.old self.new moment) }
         ensures rests { result ≡ None → HasEnded self.old self.new }
         ensures seen { IfSome result (λ q. OnlyLast self.old self.new q.0 proc.0 aim) }
     {
-        law_wired();
-        law_queues();
+        let mut stepped = self.advance_by_one(moment, proc, aim)?;
+        'steps: while self.is_past(stepped, moment, proc, aim) {
+            let Some(next) = self.advance_by_one(moment, proc, aim) else {
+                return Some(stepped);
+            };
+            stepped = next;
+        }
+        Some(stepped)
+    }
+
+    // The same, but steps of the processor that is alone are taken at once where they need no look each. None of the steps but
+    // the last one is one of `proc` that does what is aimed at.
+    #[inline(always)]
+    fn advance_to_sight(&mut self, moment: u64, proc: ProcId, aim: Aim) -> Option<ProcId>
+        requires under_way { IsUnderWay self.old }
+        requires possible { IsPossibleAim self.old.machine.set proc.0 aim }
+        ensures gone { IfSome result (λ _. HasGoneOn self.old self.new moment) }
+        ensures rests { result ≡ None → HasEnded self.old self.new }
+        ensures seen { IfSome result (λ q. OnlyLast self.old self.new q.0 proc.0 aim) }
+    {
         let watched = self.watched(proc, aim);
         if let Some(stepped) = self.run_alone(moment, watched) {
             return Some(stepped);
         }
-        let _set = self.machine.set();
-        let stepped = self.advance()?;
+        let stepped = self.advance_past(moment, proc, aim)?;
         Some(stepped)
     }
 
