@@ -8,6 +8,7 @@ pub mod Shown
 pub mod Walks
 pub mod Alone
 pub mod Leading
+pub mod Copying
 pub mod Growing
 pub mod Searching
 pub mod Ahead

@@ -261,17 +261,35 @@ impl Copies<'_> {
         steps.saturating_mul(2)
     }
 
+    // Gives up the first copy where none is free. The others stay in their order.
+    fn free_one(&mut self)
+        ensures { (set : ProgramSet) → AreOn set self.old.walks.items → AreOn set self.new.walks.items }
+    {
+        let copies = self.walks.len();
+        if self.kept < copies {
+            return;
+        }
+        let left = copies.saturating_sub(1);
+        for i in 0..left {
+            self.walks.swap(i, i + 1);
+        }
+        self.kept = left;
+    }
+
     // Keeps a copy of the machine where it stands, where copies are kept and the last one stands before it.
     fn keep_here(&mut self, walk: &Walk<'_>)
         requires under_way { IsUnderWay walk.now }
         requires copies { AreOn walk.now.machine.set self.old.walks.items }
         ensures { AreOn walk.now.machine.set self.new.walks.items }
     {
-        if let Some(at) = self.last_moment() {
-            if at < walk.moment {
-                let _steps = self.keep_next(walk, 0);
-            }
+        let Some(at) = self.last_moment() else {
+            return;
+        };
+        if at >= walk.moment {
+            return;
         }
+        self.free_one();
+        self.keep(walk);
     }
 
     /// Takes the machine to the end of the serial order, and keeps copies on the way, at like distances. Where none is free,

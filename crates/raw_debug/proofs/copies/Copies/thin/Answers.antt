@@ -1,17 +1,8 @@
-use Rattle.std.proofs.Common.{ℕ, ◌+◌, ◌*◌, ◌<◌, List, [], ◌∷◌, length, sym, ap, subst, ◌∙◌, arith}
-use Rattle.std.specs.List.{swap}
-use Rattle.std.proofs.lemmas.List.Elements.{All-set, All-get_or}
+use Rattle.std.proofs.Common.{◌+◌, ◌*◌, ◌<◌, length, sym, ap, subst, ◌∙◌, arith}
 use Rattle.std.proofs.lemmas.List.Edits.{length-swap}
-use Rattle.raw_model.specs.Program.{ProgramSet}
-use Rattle.raw_debug.specs.declared.walk.Walk.{Walk}
-use Rattle.raw_debug.specs.Walking.{IsOn, AreOn}
+use Rattle.raw_debug.specs.Walking.{AreOn}
+use Rattle.raw_debug.proofs.Copying.{swapped}
 use Rattle.raw_debug.proofs.copies.Copies.thin.Goals as goal
-
--- two walks in each other's place
-swapped : (set : ProgramSet) (walks : List Walk) (i j : ℕ) → i < length walks → j < length walks → AreOn set walks → AreOn set (swap walks i j)
-swapped set [] i j low high all = all
-swapped set (w ∷ ws) i j low high all =
-    All-set (IsOn set) _ j _ (All-get_or (IsOn set) (w ∷ ws) i w low all) (All-set (IsOn set) (w ∷ ws) i _ (All-get_or (IsOn set) (w ∷ ws) j w high all) all)
 
 pub loop-i-preserved : goal.loop-i-preserved
 loop-i-preserved c =
