@@ -25,7 +25,7 @@ use raw_stream::{RowNode, StreamFlow};
 use std::alloc::{AllocError, Global};
 
 /// So many rows a run sees in which the control should recur, at first and each time that this does not suffice.
-const ROWS: [u32; 3] = [64, 256, 1_024];
+const ROWS: [u32; 4] = [64, 256, 1_024, 4_096];
 
 /// So many rows further back the words of a cut are told from, the first that suffice.
 const BACK: [u64; 12] = [0, 1, 2, 3, 4, 6, 8, 16, 32, 64, 128, 256];
