@@ -12,7 +12,6 @@ pub mod Beside
 pub mod Turned
 pub mod Stopping
 pub mod Missing
-pub mod Words
 pub mod Sending
 pub mod Telling
 pub mod Counted

@@ -8,7 +8,7 @@ use Rattle.std.proofs.lemmas.List.{append_assoc, length-append, length-map, get_
 use Rattle.std.proofs.lemmas.List.Sums.{sum_by-cons}
 use Rattle.std.proofs.lemmas.Option.{unwrap_or-slice_get}
 use Rattle.std.proofs.lemmas.Bool.{cases_eq, cases_lt, ltb-true, ltb-false, lt-ltb, le-ltb, eq-eqb, ne_eqb, false≢true}
-use Rattle.raw_network.specs.Network.{values_on, is_enabled, step, event_of}
+use Rattle.raw_network.specs.Network.{is_enabled, step, event_of}
 use Rattle.raw_network.specs.Runs.{IsLawful, end_of, sent_on, touches}
 use Rattle.raw_network.proofs.Kth.{local_other}
 use Rattle.raw_network.proofs.Steps.{end_of-append, lawful-push, end_of-push}
@@ -17,10 +17,9 @@ use Rattle.raw_grid.specs.Wires.{wires_of, producer_of, consumer_of}
 use Rattle.raw_model.specs.Program.{ProgramSet, TileProgram, IsSet}
 use Rattle.raw_model.specs.Local.{Local}
 use Rattle.raw_model.specs.Machine.{machine_of}
-use Rattle.raw_model.specs.Start.{MachineState, Fits, start}
-use Rattle.raw_model.specs.Rest.{end, stopped, enabled, passed_on}
+use Rattle.raw_model.specs.Start.{start}
+use Rattle.raw_model.specs.Rest.{end, stopped, passed_on}
 use Rattle.raw_model.specs.Waits.{first_wait}
-use Rattle.raw_model.proofs.Wired.{wired}
 use Rattle.raw_model.specs.Cache.{turns, stream_of, misses, touches_of}
 use Rattle.raw_processor.specs.Touching.{owed_after}
 use Rattle.raw_serial.specs.declared.turn.Turn.{Turn}
@@ -35,12 +34,12 @@ use Rattle.raw_lockstep.specs.Stalls.{Paying, owes_from, without_stalls, touched
 use Rattle.raw_lockstep.proofs.Cycling.{next_enabled, filtered_more, law_empty_is_quiet}
 use Rattle.raw_lockstep.proofs.Stalling.{without_unpaid, untouched, unpaid_none, steps_in-append, law_steps_of_turns, paid_here, touched_here}
 use Rattle.raw_clock.specs.Clock.{cost_of, clocked, ClockState, machine_at, first_clock, steps_of, clock_turns, clock, owes, turn_in, goes, IsOver, GoesOn}
-use Rattle.raw_clock.specs.Values.{HaveSent, AreSent}
-use Rattle.raw_clock.specs.Engine.{clock_by, HasTaken, OnlyTilesOwe, Took, IsCycle, AreTurns, SomeGoes, NoneGoes}
+use Rattle.raw_clock.specs.Values.{HaveSent, AreCounted}
+use Rattle.raw_clock.specs.Engine.{clock_by, HasTaken, OnlyTilesOwe, AreSent, Took, IsCycle, AreTurns, SomeGoes, NoneGoes}
 use Rattle.raw_clock.proofs.Missing.{misses_more}
 use Rattle.raw_clock.proofs.Turning.{goes_is}
-use Rattle.raw_clock.proofs.Sending.{passed_push, own_holds, other_none, fired_enabled}
-use Rattle.raw_clock.proofs.Clocking.{clock_wired, clock_length, clock_fits, quiet_if_over}
+use Rattle.raw_clock.proofs.Sending.{passed_push}
+use Rattle.raw_clock.proofs.Clocking.{clock_wired, clock_length, quiet_if_over}
 
 -- the turns of the cycle after n
 abbrev pub AreClockTurns : ProgramSet → ℕ → List Turn → Type 0
@@ -301,7 +300,7 @@ zeros_at xs n e i =
     (λ (past : n ≤ i). get_or_past (replicate n 0) i 0 (omega (arith, past, length-replicate {A = ℕ} n 0)))
     (cases_lt i n)
 
-pub zeros : (xs : List ℕ) (n : ℕ) → xs ≡ replicate n 0 → (i : ℕ) → slice_index xs i ≤ 2048 * 0
+pub zeros : (xs : List ℕ) (n : ℕ) → xs ≡ replicate n 0 → (i : ℕ) → slice_index xs i ≤ 2560 * 0
 zeros xs n e i = omega (arith, zeros_at xs n e i)
 
 -- what a turn says of its parts
@@ -317,11 +316,15 @@ stalled_owes false false (Some w) e = cc e
 
 -- what a turn leaves
 pub took_set : (b : Bool) (m n : Running) (p : ℕ) (before after : List ℕ) → Took b m n p before after → n.set ≡ m.set
-took_set true m n p before after took = took.0.1.set
+took_set true m n p before after took = took.1.set
 took_set false m n p before after took = ap (λ (r : Running). r.set) took.0
 
+sent_each : (turn : Turn) (m : Running) (p : ℕ) (before after : List ℕ) → AreSent turn m p before after → length after ≡ length before
+sent_each Fired m p before after sent = sent.each
+sent_each _ m p before after sent = ap length sent
+
 pub took_each : (b : Bool) (m n : Running) (p : ℕ) (before after : List ℕ) → Took b m n p before after → length after ≡ length before
-took_each true m n p before after took = took.1.each
+took_each true m n p before after took = sent_each took.0 m p before after took.2
 took_each false m n p before after took = ap length took.1
 
 pub followed_owed : (turn : Turn) (m n : Running) (p q : ℕ) → q ≢ p → Follows turn m n p → slice_index n.owed q ≡ slice_index m.owed q
@@ -331,13 +334,12 @@ followed_owed _ m n p q ne is = ap (λ (r : Running). slice_index r.owed q) is
 
 pub took_owed : (b : Bool) (m n : Running) (p q : ℕ) (before after : List ℕ) → q ≢ p → Took b m n p before after
     → slice_index n.owed q ≡ slice_index m.owed q
-took_owed true m n p q before after ne took = followed_owed took.0.0 m n p q ne took.0.1.after
+took_owed true m n p q before after ne took = followed_owed took.0 m n p q ne took.1.after
 took_owed false m n p q before after ne took = ap (λ (r : Running). slice_index r.owed q) took.0
 
 module _ (g : ProgramSet) (valid : IsSet g) where
   -- the counts of what was sent, with one step more, and with a stall turn
-  module _ (m n : Running) (ts : List ℕ) (p : ℕ) (has : HasTaken g m ts) (before after : List ℕ) (was : HaveSent g ts before)
-      (sent : AreSent g.topo p m.state.wires n.state.wires before after) where
+  module _ (m : Running) (ts : List ℕ) (p : ℕ) (has : HasTaken g m ts) (before after : List ℕ) (was : HaveSent g ts before) where
     abbrev sent_in : ℕ → List ℕ → ℕ
     sent_in w h = length (passed_on g (start g) h w)
 
@@ -345,11 +347,10 @@ module _ (g : ProgramSet) (valid : IsSet g) where
     led : end g (steps_of g (first_clock g) ts) ≡ m.state
     led = sym (ap (λ h. end h (steps_of g (first_clock g) ts)) has.same) ∙ has.run.there
 
-    pub step_sent : enabled g m.state p ≡ true → length m.state.wires ≡ length (wires_of g.topo) → n.state ≡ step (machine_of g) m.state p
-        → owes g (clock_by g ts) p ≡ false → HaveSent g (ts ++ p ∷ []) after
-    step_sent on many next free =
+    pub step_sent : AreCounted (event_of (machine_of g) m.state p).sent before after → owes g (clock_by g ts) p ≡ false → HaveSent g (ts ++ p ∷ []) after
+    step_sent counted free =
         record {
-          each = sent.each ∙ was.each;
+          each = counted.each ∙ was.each;
           sent =
               λ w there.
               let all : sent_in w (steps_of g (first_clock g) (ts ++ p ∷ [])) ≡ sent_in w (steps_of g (first_clock g) ts ++ p ∷ []) =
@@ -360,66 +361,45 @@ module _ (g : ProgramSet) (valid : IsSet g) where
               ap length (passed_push (machine_of g) (start g) (steps_of g (first_clock g) ts) p w)
               ∙ length-append (passed_on g (start g) (steps_of g (first_clock g) ts) w) (sent_on w (event_of (machine_of g) (end g (steps_of g (first_clock g) ts)) p).sent)
               ∙ ap (λ s. sent_in w (steps_of g (first_clock g) ts) + length (sent_on w (event_of (machine_of g) s p).sent)) led in
-              ⊎_elim
-              (λ (own : producer_of g.topo w ≡ p).
-              let holds = own_holds (machine_of g) (producer_of g.topo) (consumer_of g.topo) (wired g valid.topology) m.state p w on (omega (arith, there, many)) own in
-              let now : length (values_on n.state.wires w) ≡ length (values_on (step (machine_of g) m.state p).wires w) =
-              ap (λ (s : MachineState). length (values_on s.wires w)) next in
-              omega (arith, all, more, holds, now, was.sent w there, sent.own w there own))
-              (λ (ne : producer_of g.topo w ≡ p → ⊥).
-              let none : length (sent_on w (event_of (machine_of g) m.state p).sent) ≡ 0 =
-              ap length (other_none (machine_of g) (producer_of g.topo) (consumer_of g.topo) (wired g valid.topology) m.state p w on ne) in
-              omega (arith, all, more, none, was.sent w there, sent.other w there ne))
-              (cases_eq (producer_of g.topo w) p);
+              let within : w < length before = omega (arith, there, was.each) in
+              omega (arith, all, more, was.sent w there, counted.more w within);
         }
 
-    pub stall_sent : n.state ≡ m.state → owes g (clock_by g ts) p ≡ true → HaveSent g (ts ++ p ∷ []) after
+    pub stall_sent : after ≡ before → owes g (clock_by g ts) p ≡ true → HaveSent g (ts ++ p ∷ []) after
     stall_sent same stall =
         record {
-          each = sent.each ∙ was.each;
+          each = ap length same ∙ was.each;
           sent =
               λ w there.
-              let all : sent_in w (steps_of g (first_clock g) (ts ++ p ∷ [])) ≡ sent_in w (steps_of g (first_clock g) ts) =
-              ap (sent_in w)
+              ap (λ xs. slice_index xs w) same
+              ∙ was.sent w there
+              ∙ sym
+              (ap (sent_in w)
               (steps_in-append (machine_of g) (cost_of g) (first_clock g) ts (p ∷ [])
               ∙ ap (λ b. steps_of g (first_clock g) ts ++ cond b [] (p ∷ [])) stall
-              ∙ append-nil (steps_of g (first_clock g) ts)) in
-              ⊎_elim
-              (λ (own : producer_of g.topo w ≡ p).
-              let now : length (values_on n.state.wires w) ≡ length (values_on m.state.wires w) = ap (λ (s : MachineState). length (values_on s.wires w)) same in
-              omega (arith, all, now, was.sent w there, sent.own w there own))
-              (λ (ne : producer_of g.topo w ≡ p → ⊥). omega (arith, all, was.sent w there, sent.other w there ne))
-              (cases_eq (producer_of g.topo w) p);
+              ∙ append-nil (steps_of g (first_clock g) ts)));
         }
 
   -- a turn that goes on, of a processor that may take it
   turn_taken : (m n : Running) (ts : List ℕ) (p : ℕ) (before after : List ℕ) → HasTaken g m ts → HaveSent g ts before
       → (tile_count g.topo ≤ p → slice_index m.owed p ≡ 0) → is_enabled (clocked g) (clock_by g ts) p ≡ true → p < proc_count g.topo
-      → (turn : Turn) → IsTurnOf m n p turn → AreSent g.topo p m.state.wires n.state.wires before after
+      → (turn : Turn) → IsTurnOf m n p turn → AreSent turn m p before after
       → HasTaken g n (ts ++ p ∷ []) × HaveSent g (ts ++ p ∷ []) after
-  turn_taken m n ts p before after has was none on below turn is sent = by_turn turn (is.answer ∙ turn_told g valid m ts has p none) is.after
+  turn_taken m n ts p before after has was none on below turn is sent = by_turn turn (is.answer ∙ turn_told g valid m ts has p none) is.after sent
     where
       goes_turn : goes (turn_in g (clock_by g ts) p) ≡ true
       goes_turn = goes_is g (clock_by g ts) p (omega (arith, below, clock_length g valid ts)) ∙ on
 
-      state : m.state ≡ machine_at (clock_by g ts)
-      state = state_told g valid m ts has
-
-      fits : Fits g m.state
-      fits = subst (λ s. Fits g s) (sym state) (clock_fits g valid ts has.lawful)
-
-      by_turn : (turn : Turn) → turn ≡ turn_in g (clock_by g ts) p → Follows turn m n p → HasTaken g n (ts ++ p ∷ []) × HaveSent g (ts ++ p ∷ []) after
-      by_turn Fired e after_it =
+      by_turn : (turn : Turn) → turn ≡ turn_in g (clock_by g ts) p → Follows turn m n p → AreSent turn m p before after
+          → HasTaken g n (ts ++ p ∷ []) × HaveSent g (ts ++ p ∷ []) after
+      by_turn Fired e after_it sent =
           let free = fired_owes (stopped g (machine_at (clock_by g ts)) p) (owes g (clock_by g ts) p) (first_wait g (machine_at (clock_by g ts)) p) e in
-          let may : enabled g m.state p ≡ true =
-          fired_enabled g m.state p (owes g (clock_by g ts) p) (omega (arith, below, fits.processors))
-          (e ∙ ap (λ s. turn_by (stopped g s p) (owes g (clock_by g ts) p) (first_wait g s p)) (sym state)) in
-          let next : n.state ≡ step (machine_of g) m.state p =
-          after_it.state ∙ ap (λ h. step (machine_of h) m.state p) has.same in (
+          let counted : AreCounted (event_of (machine_of g) m.state p).sent before after =
+          subst (λ h. AreCounted (event_of (machine_of h) m.state p).sent before after) has.same sent in (
             fired_told g valid m ts has p on n after_it free,
-            step_sent m n ts p has before after was sent may fits.wires next free,
+            step_sent m ts p has before after was counted free,
           )
-      by_turn Stalled e after_it =
+      by_turn Stalled e after_it sent =
           let stall = stalled_owes (stopped g (machine_at (clock_by g ts)) p) (owes g (clock_by g ts) p) (first_wait g (machine_at (clock_by g ts)) p) e in
           let tile : p < tile_count g.topo =
           ⊎_elim (λ there. there)
@@ -428,10 +408,10 @@ module _ (g : ProgramSet) (valid : IsSet g) where
           absurd (false≢true (sym off ∙ stall)))
           (cases_lt p (tile_count g.topo)) in (
             subst (λ r. HasTaken g r (ts ++ p ∷ [])) (sym after_it) (stalled_told g valid m ts has p on stall tile),
-            stall_sent m n ts p has before after was sent (ap (λ (r : Running). r.state) after_it) stall,
+            stall_sent m ts p has before after was sent stall,
           )
-      by_turn Stopped e after_it = absurd (false≢true (ap goes e ∙ goes_turn))
-      by_turn (Waits wire) e after_it = absurd (false≢true (ap goes e ∙ goes_turn))
+      by_turn Stopped e after_it sent = absurd (false≢true (ap goes e ∙ goes_turn))
+      by_turn (Waits wire) e after_it sent = absurd (false≢true (ap goes e ∙ goes_turn))
 
   -- those of the first i processors that go on in a cycle
   abbrev pub begun : List ℕ → ℕ → List ℕ
@@ -466,9 +446,7 @@ module _ (g : ProgramSet) (valid : IsSet g) where
           let still : is_enabled (clocked g) (clock_by g (ts ++ begun ts i)) i ≡ true =
           ap (λ c. is_enabled (clocked g) c i) (end_of-append (clocked g) (first_clock g) ts (begun ts i))
           ∙ next_enabled (clocked g) (producer_of g.topo) (consumer_of g.topo) (clock_wired g valid) (clock_by g ts) i (sym e) in
-          let sent : AreSent g.topo i m.state.wires n.state.wires before after =
-          subst (λ (h : ProgramSet). AreSent h.topo i m.state.wires n.state.wires before after) has.same took.1 in
-          turn_taken m n (ts ++ begun ts i) i before after has was (λ past. later ∙ none past) still below took.0.0 took.0.1 sent
+          turn_taken m n (ts ++ begun ts i) i before after has was (λ past. later ∙ none past) still below took.0 took.1 took.2
       by_test false e took =
           let all = sym (append-nil (ts ++ begun ts i)) in
           subst (λ xs. HasTaken g n xs × HaveSent g xs after) all

@@ -1,14 +1,16 @@
 -- What a machine that is stepped by the clock has done.
 use Rattle.std.specs.Prelude.{◌≡◌, ◌≢◌, ℕ, ◌+◌, ◌<◌, ◌≤◌, Bool, true, false, List, ◌++◌, slice_get, slice_index, Some}
+use Rattle.raw_network.specs.Network.{event_of}
 use Rattle.raw_network.specs.Runs.{IsLawful, end_of}
 use Rattle.raw_grid.specs.Topology.{tile_count, proc_count}
 use Rattle.raw_model.specs.Program.{ProgramSet}
+use Rattle.raw_model.specs.Machine.{machine_of}
 use Rattle.raw_serial.specs.Running.{Running, IsRunBy, IsTurnOf, turn_of}
 use Rattle.raw_serial.specs.declared.turn.Turn.{Turn}
-use Rattle.raw_serial.specs.declared.turn.Turn.TheVariants.{Stopped}
+use Rattle.raw_serial.specs.declared.turn.Turn.TheVariants.{Fired, Stopped}
 use Rattle.raw_lockstep.specs.Lockstep.{all_enabled}
 use Rattle.raw_lockstep.specs.Stalls.{touched_by, paid_by}
-use Rattle.raw_clock.specs.Values.{HaveSent, AreSent}
+use Rattle.raw_clock.specs.Values.{HaveSent, AreCounted}
 use Rattle.raw_clock.specs.Clock.{cost_of, clocked, ClockState, first_clock, steps_of, goes}
 
 -- the clock after these turns
@@ -40,10 +42,14 @@ StaysStopped m turns p = slice_get turns p ≡ Some Stopped → turn_of m p ≡ 
 abbrev pub AreOthersAlike : ℕ → List Turn → List Turn → Type 0
 AreOthersAlike p old new = (q : ℕ) → q ≢ p → slice_get new q ≡ slice_get old q
 
+-- what a turn of processor p sends was counted
+abbrev pub AreSent : Turn → Running → ℕ → List ℕ → List ℕ → Type 0
+AreSent Fired m p before after = AreCounted (event_of (machine_of m.set) m.state p).sent before after
+AreSent _ m p before after = after ≡ before
+
 -- a processor was given its turn, and what it sent was counted, or nothing was done
 abbrev pub Took : Bool → Running → Running → ℕ → List ℕ → List ℕ → Type 0
-Took true old new p before after =
-    ((turn : Turn) × IsTurnOf old new p turn) × AreSent old.set.topo p old.state.wires new.state.wires before after
+Took true old new p before after = (turn : Turn) × IsTurnOf old new p turn × AreSent turn old p before after
 Took false old new p before after = (new ≡ old) × (after ≡ before)
 
 -- From one machine to the other there was one cycle: whatever turns the first has taken, the other has taken these and

@@ -11,15 +11,15 @@ ghost use Rattle.raw_processor.specs.Processor.{local_of, owed_of};
 ghost use Rattle.raw_serial.specs.Turns.{turn_by};
 ghost use Rattle.raw_serial.specs.Running.{turn_of, IsTurnOf};
 ghost use Rattle.raw_clock.specs.Clock.{goes};
-ghost use Rattle.raw_clock.specs.Engine.{OnlyTilesOwe, AreTurns, Took, IsCycle, SomeGoes, NoneGoes, StaysStopped, AreOthersAlike};
-ghost use Rattle.raw_clock.specs.Values.{AreSent, AreFewMore};
+ghost use Rattle.raw_clock.specs.Engine.{OnlyTilesOwe, AreTurns, AreSent, Took, IsCycle, SomeGoes, NoneGoes, StaysStopped, AreOthersAlike};
+ghost use Rattle.raw_clock.specs.Values.{AreFewMore};
 ghost use Rattle.raw_clock.specs.Account.{IsAccount};
 
 use crate::account::Account;
-use crate::values::{count_sent, note_held, sending_ends};
+use crate::values::count_sent;
 use raw_grid::{ProcId, WireId};
 use raw_model::Set;
-use raw_serial::{Machine, Processor, Turn};
+use raw_serial::{Event, Machine, Processor, Turn};
 
 // How many stall turns a processor owes.
 fn owed(processor: &Processor) -> u8
@@ -109,23 +109,17 @@ fn give(machine: &mut Machine<'_>, p: ProcId, passed: &mut [u64]) -> Turn
     requires each { length passed.old ≡ length (wires_of machine.old.set.topo) }
     requires room { (w : ℕ) → slice_index passed.old w < 2 ^ 62 }
     ensures turn { IsTurnOf machine.old machine.new p.0 result }
-    ensures sent { AreSent machine.old.set.topo p.0 machine.old.state.wires machine.new.state.wires passed.old passed.new }
-    ensures stays { goes result ≡ false → passed.new ≡ passed.old }
-    ensures few { AreFewMore 8 passed.old passed.new }
+    ensures sent { AreSent result machine.old p.0 passed.old passed.new }
+    ensures few { AreFewMore 10 passed.old passed.new }
 {
-    // The set is asked for so that it is known to keep its rules.
-    let _set = machine.set();
-    let word = sending_ends(machine, p);
-    if word == 0 {
-        return machine.try_step(p);
+    let mut event = Event::new();
+    match machine.try_step_telling(p, &mut event) {
+        Turn::Fired => {
+            count_sent(&event.sent, passed);
+            Turn::Fired
+        }
+        turn => turn,
     }
-    let mut held = [0; 10];
-    note_held(machine, p, word, &mut held);
-    let turn = machine.try_step(p);
-    if goes(turn) {
-        count_sent(machine, p, word, &held, passed);
-    }
-    turn
 }
 
 // Asks a switch or a port what its turn comes to, and notes it.
@@ -172,7 +166,7 @@ fn take_tile(
     ensures account { IsAccount machine.old.set cycles account.new }
     ensures turn { slice_get account.new.turns.items p.0 ≡ Some (turn_of machine.old p.0) }
     ensures others { AreOthersAlike p.0 account.old.turns.items account.new.turns.items }
-    ensures few { AreFewMore 8 passed.old passed.new }
+    ensures few { AreFewMore 10 passed.old passed.new }
 {
     let set = machine.set();
     match account.turn(p) {
@@ -192,7 +186,7 @@ fn take_other(machine: &mut Machine<'_>, turn: Turn, passed: &mut [u64], p: Proc
     requires room { (w : ℕ) → slice_index passed.old w < 2 ^ 62 }
     ensures goes { result ≡ goes turn }
     ensures took { Took result machine.old machine.new p.0 passed.old passed.new }
-    ensures few { AreFewMore 8 passed.old passed.new }
+    ensures few { AreFewMore 10 passed.old passed.new }
 {
     let goes_on = goes(turn);
     if goes_on {
@@ -240,7 +234,7 @@ fn take_all(
     ensures turns { AreTurns machine.old account.new.turns.items }
     ensures goes { MatchBool result (SomeGoes machine.old (proc_count machine.old.set.topo))
         (NoneGoes machine.old (proc_count machine.old.set.topo)) }
-    ensures few { AreFewMore 2048 passed.old passed.new }
+    ensures few { AreFewMore 2560 passed.old passed.new }
 {
     let tiles = machine.set().topo.tiles();
     let mut some = false;
@@ -279,7 +273,7 @@ pub fn step_cycle(
     ensures tiles { OnlyTilesOwe machine.old }
     ensures goes { MatchBool result (SomeGoes machine.old (proc_count machine.old.set.topo))
         (NoneGoes machine.old (proc_count machine.old.set.topo)) }
-    ensures few { AreFewMore 2048 passed.old passed.new }
+    ensures few { AreFewMore 2560 passed.old passed.new }
 {
     ask_others(machine, account, cycles);
     take_all(machine, account, passed, cycles)

@@ -18,4 +18,3 @@ pub use cycle::{ask_all, step_cycle};
 pub use laws::law_clock;
 pub use running::{Cycles, run};
 pub use tally::{Spent, Tally};
-pub use values::{note_held, sending_ends};

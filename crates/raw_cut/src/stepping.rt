@@ -16,7 +16,7 @@ use raw_grid::ProcId;
 use raw_model::Set;
 use raw_processor::{EndWires, PortState, SwitchUnit};
 use raw_prove::{Machine, SourceUnit, TileUnit, Turn, Unit, turn_switch, turn_tile};
-use raw_serial::{Turn as SerialTurn, Wires, turn_sink, turn_source};
+use raw_serial::{Silent, Turn as SerialTurn, Wires, turn_sink, turn_source};
 use raw_term::TermTable;
 use std::alloc::AllocError;
 
@@ -75,7 +75,7 @@ fn turn_source_unit(
     ensures { (nodes : List Node) →
         IsTurn set.now p.0 nodes (Source unit.old.port.local) wires.old result nodes (Source unit.new.port.local) wires.new }
 {
-    match turn_source(set, p, ends, &mut unit.port, wires) {
+    match turn_source(set, p, ends, &mut unit.port, wires, &mut Silent) {
         SerialTurn::Fired => Turn::Fired,
         _ => Turn::Idle,
     }
@@ -97,7 +97,7 @@ fn turn_sink_unit(
         IsTurn set.now p.0 nodes (Sink port.old.local) wires.old result nodes (Sink port.new.local) wires.new }
     ensures kept { (spare : ℕ) → IsSinkWith set.now spare p.0 port.old → IsSinkWith set.now spare p.0 port.new }
 {
-    match turn_sink(set, p, ends, port, wires) {
+    match turn_sink(set, p, ends, port, wires, &mut Silent) {
         SerialTurn::Fired => Turn::Fired,
         _ => Turn::Idle,
     }

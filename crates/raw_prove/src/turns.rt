@@ -29,7 +29,9 @@ use raw_processor::{
     EndWires, PortState, SwitchUnit, source_needs, source_stopped, step_wires, switch_needs,
     switch_stopped, tile_step, tile_stopped, words_of,
 };
-use raw_serial::{Turn as SerialTurn, Wires, take_operands, turn_sink as serial_sink, unmet_at};
+use raw_serial::{
+    Silent, Turn as SerialTurn, Wires, take_operands, turn_sink as serial_sink, unmet_at,
+};
 use raw_switch::{SwitchState, SwitchStep};
 use raw_switch_isa::{SwitchIns, SwitchSource};
 use raw_term::{TermRefusal, TermTable, TermTile, control};
@@ -366,7 +368,7 @@ pub(crate) fn turn_sink(
         IsTurn (numbered set.now) p.0 nodes (Sink port.old.local) wires.old result nodes (Sink port.new.local) wires.new }
     ensures kept { IsSink set.now p.0 port.new }
 {
-    match serial_sink(set, p, ends, port, wires) {
+    match serial_sink(set, p, ends, port, wires, &mut Silent) {
         SerialTurn::Fired => Turn::Fired,
         _ => Turn::Idle,
     }

@@ -286,7 +286,7 @@ module _ (word : ℕ) (wires sent : List (Option ℕ)) where
     pub there : All (λ (m : Sent). m.wire < length held) (sent_from i)
     pub room : (w : ℕ) → 0 < length (sent_on w (sent_from i)) → length (values_on held w) + length (sent_on w (sent_from i)) ≤ 8
 
-  sent_split : (i : ℕ) → i < 10 → sent_from i ≡ one i ++ sent_from (i + 1)
+  pub sent_split : (i : ℕ) → i < 10 → sent_from i ≡ one i ++ sent_from (i + 1)
   sent_split i below = ap (flat_map one) (drop_ends i below)
 
   pub sent_over : (i j : ℕ) → i ≤ j → ((end : ℕ) → i ≤ end → end < j → has_end word end ≡ false)

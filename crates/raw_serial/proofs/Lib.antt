@@ -6,6 +6,7 @@ pub mod ByEnds
 pub mod Single
 pub mod Fields
 pub mod Turning
+pub mod Events
 pub mod Owing
 pub mod Runs
 pub mod Taking

@@ -1,5 +1,5 @@
 -- What a port is given, and what it needs.
-use Rattle.std.proofs.Common.{◌≡◌, ℕ, ◌-◌, ◌*◌, ◌≤◌, List, ◌++◌, map, Option, Some, None, refl, sym, ap, ◌∙◌, arith}
+use Rattle.std.proofs.Common.{◌≡◌, ℕ, ◌-◌, ◌*◌, ◌≤◌, List, [], ◌++◌, map, Option, Some, None, refl, sym, ap, ◌∙◌, arith}
 use Rattle.std.specs.Prelude.{slice_index, slice_index_or}
 use Rattle.std.specs.Option.{option_to_list}
 use Rattle.std.proofs.lemmas.List.{map-append}
@@ -9,8 +9,10 @@ use Rattle.raw_model.specs.Program.{ProgramSet, PortProgram, IsSet, IsPortProgra
 use Rattle.raw_model.specs.Local.{PortLocal}
 use Rattle.raw_model.specs.Machine.{port_program, capacity_of, port_inputs, port_outputs, source_row, sent_to}
 use Rattle.raw_model.proofs.Words.{all_at}
+use Rattle.raw_model.proofs.Counts.{sent_none}
 use Rattle.raw_processor.specs.declared.end_wires.EndWires.{EndWires}
 use Rattle.raw_processor.specs.Ends.{AreEndsOf}
+use Rattle.raw_processor.specs.Given.{sent_out}
 use Rattle.raw_serial.specs.Needs.{sent_by_source}
 
 module _ (g : ProgramSet) (p : ℕ) where
@@ -43,3 +45,9 @@ pub sink_wires : (g : ProgramSet) (p : ℕ) (es : EndWires) → AreEndsOf g.topo
 sink_wires g p es are =
     ap (λ o. option_to_list o ++ option_to_list (slice_index_or es.inputs 9 None)) (are.inputs 4 (omega arith))
     ∙ ap (λ o. option_to_list (input_wire g.topo p 4) ++ option_to_list o) (are.inputs 9 (omega arith))
+
+-- a sink sends nothing
+pub nothing_sent : (es : EndWires) → sent_out es (record { sent1 = None; sent2 = None; touched = None }) ≡ []
+nothing_sent es =
+    ap (λ ms. ms ++ sent_to (slice_index_or es.outputs 9 None) None) (sent_none (slice_index_or es.outputs 4 None))
+    ∙ sent_none (slice_index_or es.outputs 9 None)

@@ -1,5 +1,6 @@
 pub mod Needs
 pub mod Turns
+pub mod Told
 pub mod Running
 pub mod Parts
 pub mod Costs

@@ -2,10 +2,12 @@
 ghost use Rattle.std.specs.Prelude.{◌≡◌, ◌≢◌, ◌<◌, Some, IfOk};
 ghost use Rattle.raw_grid.specs.Topology.{proc_count, kind_at};
 ghost use Rattle.raw_serial.specs.Fresh.{IsFresh};
+ghost use Rattle.raw_serial.specs.Told.{told_of};
 ghost use Rattle.raw_serial.specs.Running.{turn_of, stalled_once, IsStep, IsTurnOf};
 
 use crate::opening::{open_ends, open_processors};
 use crate::resetting::reset_processors;
+use crate::telling::{Silent, Tells};
 use crate::turn::Turn;
 use crate::turns::turn_processor;
 use crate::wires::Wires;
@@ -77,17 +79,18 @@ impl Machine<'_> {
         set.topo.kind_of(p)
     }
 
-    // Gives a processor of this kind its turn.
+    // Gives a processor of this kind its turn, and tells what it does, if that is a step.
     #[inline(always)]
-    fn turn_as(&mut self, p: ProcId, kind: ProcKind) -> Turn
+    fn turn_as<T: Tells>(&mut self, p: ProcId, kind: ProcKind, teller: &mut T) -> Turn
         requires proc { p.0 < proc_count self.old.set.topo }
         requires kind { kind_at self.old.set.topo p.0 ≡ Some kind }
-        ensures { IsTurnOf self.old self.new p.0 result }
+        ensures turn { IsTurnOf self.old self.new p.0 result }
+        ensures told { result ≡ Turn.Fired → T.has teller.new (told_of self.old self.new p.0) }
     {
         let i = p.0 as usize;
         let ends = &self.ends[i];
         let processor = &mut self.processors[i];
-        turn_processor(self.set, p, kind, ends, processor, &mut self.wires)
+        turn_processor(self.set, p, kind, ends, processor, &mut self.wires, teller)
     }
 
     // The same with what the answer says of the machine.
@@ -101,7 +104,7 @@ impl Machine<'_> {
         ensures stalled { result ≡ Turn.Stalled → self.new ≡ stalled_once self.old p.0 }
         ensures stays { result ≢ Turn.Fired → result ≢ Turn.Stalled → self.new ≡ self.old }
     {
-        self.turn_as(p, kind)
+        self.turn_as(p, kind, &mut Silent)
     }
 
     /// Gives a processor its turn: it takes a step if it can.
@@ -117,5 +120,14 @@ impl Machine<'_> {
     {
         let kind = self.kind_of(p);
         self.try_step_as(p, kind)
+    }
+    /// Gives a processor its turn, as `try_step` does, and tells what it does, if that is a step.
+    pub fn try_step_telling<T: Tells>(&mut self, p: ProcId, teller: &mut T) -> Turn
+        requires { p.0 < proc_count self.old.set.topo }
+        ensures turn { IsTurnOf self.old self.new p.0 result }
+        ensures told { result ≡ Turn.Fired → T.has teller.new (told_of self.old self.new p.0) }
+    {
+        let kind = self.kind_of(p);
+        self.turn_as(p, kind, teller)
     }
 }

@@ -15,6 +15,7 @@ ghost use Rattle.raw_serial.specs.Leading.{IsOfSome};
 ghost use Rattle.raw_serial.specs.Within.{register_in, NamesNone, HasRunWithin, RunsWithin};
 
 use crate::machine::Machine;
+use crate::telling::Silent;
 use crate::turn::Turn;
 use crate::turns::fire_tile;
 use crate::wires::Wires;
@@ -132,7 +133,7 @@ fn step_within(
     if !step.is_within() {
         return false;
     }
-    match fire_tile(set, p, ends, tile, wires) {
+    match fire_tile(set, p, ends, tile, wires, &mut Silent) {
         Turn::Fired => true,
         _ => false,
     }

@@ -1,5 +1,5 @@
 //! The turns of processors, by their kinds.
-ghost use Rattle.std.specs.Prelude.{◌≡◌, ◌≢◌, ℕ, ◌+◌, ◌-◌, ◌*◌, ◌<◌, ◌≤◌, ◌^◌, List, ◌++◌, Some, None, length, slice_get, slice_index, IfSome, false};
+ghost use Rattle.std.specs.Prelude.{◌≡◌, ◌≢◌, ℕ, ◌+◌, ◌-◌, ◌*◌, ◌<◌, ◌≤◌, ◌^◌, List, ◌++◌, Some, None, length, slice_get, slice_index, IfSome, false, ◌==◌, if◌then◌else◌};
 ghost use Rattle.std.specs.Option.{option_to_list};
 ghost use Rattle.raw_grid.specs.declared.parts.ProcKind.TheVariants as proc;
 ghost use Rattle.raw_grid.specs.Topology.{tile_count, proc_count, kind_at};
@@ -10,34 +10,38 @@ ghost use Rattle.raw_model.specs.Machine.{is_stopped, tile_code, switch_code, po
 ghost use Rattle.raw_model.specs.Start.{FitsTile, FitsSwitch, FitsSource, FitsSink, IsFit};
 ghost use Rattle.raw_model.specs.Cache.{StandsFor, misses, stream_of};
 ghost use Rattle.raw_tile.specs.Given.{values_of};
+ghost use Rattle.raw_processor.specs.declared.processor.Processor.TheVariants as a;
 ghost use Rattle.raw_processor.specs.Ends.{AreEndsOf};
 ghost use Rattle.raw_processor.specs.Processor.{local_of, IsKept, HasFewMisses};
 ghost use Rattle.raw_serial.specs.Costs.{IsTileTurn, IsSwitchTurn, IsSourceTurn, IsSinkTurn, IsProcessorTurn};
+ghost use Rattle.raw_serial.specs.Told.{WasTold};
 ghost use Rattle.raw_serial.specs.Leading.{IsOfSome, RunsOn};
 
 use crate::asking::{ask_sink, ask_source};
 use crate::needs::{take_operands, unmet_at};
+use crate::telling::{Silent, Tells};
 use crate::turn::Turn;
 use crate::wires::Wires;
 use raw_grid::{ProcId, ProcKind};
 use raw_model::Set;
 use raw_processor::{
-    EndWires, PortState, Processor, SwitchUnit, TileUnit, fire_sink, fire_source, step_wires,
-    switch_needs, switch_stopped, tile_step, tile_stopped, touch, words_of,
+    EndWires, PortState, Processor, SwitchUnit, TileUnit, TileWires, fire_sink, fire_source,
+    step_wires, switch_needs, switch_stopped, tile_step, tile_stopped, touch, words_of,
 };
 use raw_switch::{SwitchStep, switch_fire};
-use raw_tile::{TileStep, tile_fire};
+use raw_tile::{TileOut, TileStep, tile_fire};
 
 /// Gives a processor its turn. The kind is that of its number: where a caller names it, the compiler leaves
 /// one of the arms.
 #[inline(always)]
-pub(crate) fn turn_processor(
+pub(crate) fn turn_processor<T: Tells>(
     set: &Set,
     p: ProcId,
     kind: ProcKind,
     ends: &EndWires,
     processor: &mut Processor,
     wires: &mut Wires,
+    teller: &mut T,
 ) -> Turn
     requires valid { IsSet set.now }
     requires kind { kind_at set.now.topo p.0 ≡ Some kind }
@@ -46,13 +50,18 @@ pub(crate) fn turn_processor(
     requires few { HasFewMisses processor.old }
     requires fits { IsFit set.now p.0 (local_of processor.old) }
     requires wires { length wires.old ≡ length (wires_of set.now.topo) }
-    ensures { IsProcessorTurn set.now p.0 result processor.old processor.new wires.old wires.new }
+    ensures turn { IsProcessorTurn set.now p.0 result processor.old processor.new wires.old wires.new }
+    ensures told { WasTold T.has set.now p.0 result processor.old processor.new wires.old teller.new }
 {
     match (kind, processor) {
-        (ProcKind::Tile, Processor::Tile(tile)) => turn_tile(set, p, ends, tile, wires),
-        (ProcKind::Switch, Processor::Switch(switch)) => turn_switch(set, p, ends, switch, wires),
-        (ProcKind::Source, Processor::Source(port)) => turn_source(set, p, ends, port, wires),
-        (ProcKind::Sink, Processor::Sink(port)) => turn_sink(set, p, ends, port, wires),
+        (ProcKind::Tile, Processor::Tile(tile)) => turn_tile(set, p, ends, tile, wires, teller),
+        (ProcKind::Switch, Processor::Switch(switch)) => turn_switch(
+            set, p, ends, switch, wires, teller,
+        ),
+        (ProcKind::Source, Processor::Source(port)) => turn_source(
+            set, p, ends, port, wires, teller,
+        ),
+        (ProcKind::Sink, Processor::Sink(port)) => turn_sink(set, p, ends, port, wires, teller),
         _ => unreachable!(),
     }
 }
@@ -85,7 +94,7 @@ pub(crate) fn take_turns(
 {
     let mut left = most;
     'turns: while left > 0 {
-        match turn_processor(set, p, kind, ends, processor, wires) {
+        match turn_processor(set, p, kind, ends, processor, wires, &mut Silent) {
             Turn::Fired => left -= 1,
             Turn::Stalled => {
                 return Turns {
@@ -109,12 +118,13 @@ pub(crate) fn take_turns(
 
 /// Gives a tile its turn.
 #[inline(always)]
-pub(crate) fn turn_tile(
+pub(crate) fn turn_tile<T: Tells>(
     set: &Set,
     p: ProcId,
     ends: &EndWires,
     tile: &mut TileUnit,
     wires: &mut Wires,
+    teller: &mut T,
 ) -> Turn
     requires valid { IsSet set.now }
     requires tile { p.0 < tile_count set.now.topo }
@@ -123,7 +133,8 @@ pub(crate) fn turn_tile(
     requires few { tile.old.misses ≤ tile.old.state.count }
     requires fits { FitsTile set.now.limit (tile_code set.now p.0) tile.old.state }
     requires wires { length wires.old ≡ length (wires_of set.now.topo) }
-    ensures { IsTileTurn set.now p.0 result tile.old tile.new wires.old wires.new }
+    ensures turn { IsTileTurn set.now p.0 result tile.old tile.new wires.old wires.new }
+    ensures told { WasTold T.has set.now p.0 result (a.Tile tile.old) (a.Tile tile.new) wires.old teller.new }
 {
     if tile_stopped(&tile.state, set.limit) {
         return Turn::Stopped;
@@ -132,13 +143,20 @@ pub(crate) fn turn_tile(
         tile.owed -= 1;
         return Turn::Stalled;
     }
-    step_tile(set, p, ends, tile, wires)
+    step_tile(set, p, ends, tile, wires, teller)
 }
 
 // Steps a tile that is not stopped and owes no stall turns, if it can. An instruction that names no network needs nothing:
 // it is fired in the code of the caller, from which the compiler takes all that has to do with wires.
 #[inline(always)]
-fn step_tile(set: &Set, p: ProcId, ends: &EndWires, tile: &mut TileUnit, wires: &mut Wires) -> Turn
+fn step_tile<T: Tells>(
+    set: &Set,
+    p: ProcId,
+    ends: &EndWires,
+    tile: &mut TileUnit,
+    wires: &mut Wires,
+    teller: &mut T,
+) -> Turn
     requires valid { IsSet set.now }
     requires tile { p.0 < tile_count set.now.topo }
     requires ends { AreEndsOf set.now.topo p.0 ends.now }
@@ -148,24 +166,26 @@ fn step_tile(set: &Set, p: ProcId, ends: &EndWires, tile: &mut TileUnit, wires: 
     requires wires { length wires.old ≡ length (wires_of set.now.topo) }
     requires going { is_stopped set.now p.0 (Tile tile.old.state) ≡ false }
     requires free { tile.old.owed ≡ 0 }
-    ensures { IsTileTurn set.now p.0 result tile.old tile.new wires.old wires.new }
+    ensures turn { IsTileTurn set.now p.0 result tile.old tile.new wires.old wires.new }
+    ensures told { WasTold T.has set.now p.0 result (a.Tile tile.old) (a.Tile tile.new) wires.old teller.new }
 {
     let code: &[TileStep] = &tile.code;
     let step = tile_step(code, &tile.state);
     if step.is_within() {
-        fire_tile(set, p, ends, tile, wires)
+        fire_tile(set, p, ends, tile, wires, teller)
     } else {
-        fire_tile_apart(set, p, ends, tile, wires)
+        fire_tile_apart(set, p, ends, tile, wires, teller)
     }
 }
 
 // The same, in code of its own.
-fn fire_tile_apart(
+fn fire_tile_apart<T: Tells>(
     set: &Set,
     p: ProcId,
     ends: &EndWires,
     tile: &mut TileUnit,
     wires: &mut Wires,
+    teller: &mut T,
 ) -> Turn
     requires valid { IsSet set.now }
     requires tile { p.0 < tile_count set.now.topo }
@@ -176,19 +196,21 @@ fn fire_tile_apart(
     requires wires { length wires.old ≡ length (wires_of set.now.topo) }
     requires going { is_stopped set.now p.0 (Tile tile.old.state) ≡ false }
     requires free { tile.old.owed ≡ 0 }
-    ensures { IsTileTurn set.now p.0 result tile.old tile.new wires.old wires.new }
+    ensures turn { IsTileTurn set.now p.0 result tile.old tile.new wires.old wires.new }
+    ensures told { WasTold T.has set.now p.0 result (a.Tile tile.old) (a.Tile tile.new) wires.old teller.new }
 {
-    fire_tile(set, p, ends, tile, wires)
+    fire_tile(set, p, ends, tile, wires, teller)
 }
 
 // The same, in the code of the caller.
 #[inline(always)]
-pub(crate) fn fire_tile(
+pub(crate) fn fire_tile<T: Tells>(
     set: &Set,
     p: ProcId,
     ends: &EndWires,
     tile: &mut TileUnit,
     wires: &mut Wires,
+    teller: &mut T,
 ) -> Turn
     requires valid { IsSet set.now }
     requires tile { p.0 < tile_count set.now.topo }
@@ -199,7 +221,8 @@ pub(crate) fn fire_tile(
     requires wires { length wires.old ≡ length (wires_of set.now.topo) }
     requires going { is_stopped set.now p.0 (Tile tile.old.state) ≡ false }
     requires free { tile.old.owed ≡ 0 }
-    ensures { IsTileTurn set.now p.0 result tile.old tile.new wires.old wires.new }
+    ensures turn { IsTileTurn set.now p.0 result tile.old tile.new wires.old wires.new }
+    ensures told { WasTold T.has set.now p.0 result (a.Tile tile.old) (a.Tile tile.new) wires.old teller.new }
 {
     let code: &[TileStep] = &tile.code;
     let step = tile_step(code, &tile.state);
@@ -207,21 +230,36 @@ pub(crate) fn fire_tile(
     match take_operands(set, ends, needs, wires) {
         Err(wire) => Turn::Waits { wire },
         Ok(given) => {
+            let before = tile.misses;
             let out = tile_fire(&mut tile.state, code, given);
             wires.put_out(ends, &out);
             touch(tile, out.touched, set, p.0 as usize);
+            teller.tell(ends, needs, &out, missed_since(before, tile));
             Turn::Fired
         }
     }
 }
 
+// What a tile owes for the miss of its last step, where it had missed so often before and now owes nothing else.
+#[inline(always)]
+fn missed_since(before: u64, tile: &TileUnit) -> Option<u8>
+    ensures { result ≡ (if before == tile.now.misses then None else Some tile.now.owed) }
+{
+    if before == tile.misses {
+        None
+    } else {
+        Some(tile.owed)
+    }
+}
+
 /// Gives a switch its turn.
-pub(crate) fn turn_switch(
+pub(crate) fn turn_switch<T: Tells>(
     set: &Set,
     p: ProcId,
     ends: &EndWires,
     switch: &mut SwitchUnit,
     wires: &mut Wires,
+    teller: &mut T,
 ) -> Turn
     requires valid { IsSet set.now }
     requires switch { kind_at set.now.topo p.0 ≡ Some proc.Switch }
@@ -229,21 +267,23 @@ pub(crate) fn turn_switch(
     requires ends { AreEndsOf set.now.topo p.0 ends.now }
     requires fits { FitsSwitch set.now.limit (switch_code set.now p.0) switch.old.state }
     requires wires { length wires.old ≡ length (wires_of set.now.topo) }
-    ensures { IsSwitchTurn set.now p.0 result switch.old switch.new wires.old wires.new }
+    ensures turn { IsSwitchTurn set.now p.0 result switch.old switch.new wires.old wires.new }
+    ensures told { WasTold T.has set.now p.0 result (a.Switch switch.old) (a.Switch switch.new) wires.old teller.new }
 {
     if switch_stopped(&switch.state, set.limit) {
         return Turn::Stopped;
     }
-    step_switch(set, p, ends, switch, wires)
+    step_switch(set, p, ends, switch, wires, teller)
 }
 
 // Steps a switch that is not stopped, if it can.
-fn step_switch(
+fn step_switch<T: Tells>(
     set: &Set,
     p: ProcId,
     ends: &EndWires,
     switch: &mut SwitchUnit,
     wires: &mut Wires,
+    teller: &mut T,
 ) -> Turn
     requires valid { IsSet set.now }
     requires switch { kind_at set.now.topo p.0 ≡ Some proc.Switch }
@@ -252,7 +292,8 @@ fn step_switch(
     requires fits { FitsSwitch set.now.limit (switch_code set.now p.0) switch.old.state }
     requires wires { length wires.old ≡ length (wires_of set.now.topo) }
     requires going { is_stopped set.now p.0 (Switch switch.old.state) ≡ false }
-    ensures { IsSwitchTurn set.now p.0 result switch.old switch.new wires.old wires.new }
+    ensures turn { IsSwitchTurn set.now p.0 result switch.old switch.new wires.old wires.new }
+    ensures told { WasTold T.has set.now p.0 result (a.Switch switch.old) (a.Switch switch.new) wires.old teller.new }
 {
     let code: &[SwitchStep] = &switch.code;
     let state = &mut switch.state;
@@ -263,28 +304,42 @@ fn step_switch(
     }
     let given = wires.take_inputs(needs.inputs, &ends.inputs);
     wires.put_routes(step, state, &ends.outputs, &given);
+    teller.tell_switch(ends, needs.inputs, step, state, &given);
     switch_fire(state, code.len(), step, &given);
     Turn::Fired
 }
 
 /// Gives a source its turn.
-pub fn turn_source(
+pub fn turn_source<T: Tells>(
     set: &Set,
     p: ProcId,
     ends: &EndWires,
     state: &mut PortState,
     wires: &mut Wires,
+    teller: &mut T,
 ) -> Turn
     requires valid { IsSet set.now }
     requires source { kind_at set.now.topo p.0 ≡ Some proc.Source }
     requires ends { AreEndsOf set.now.topo p.0 ends.now }
     requires wires { length wires.old ≡ length (wires_of set.now.topo) }
-    ensures { IsSourceTurn set.now p.0 result state.old state.new wires.old wires.new }
+    ensures turn { IsSourceTurn set.now p.0 result state.old state.new wires.old wires.new }
+    ensures told { WasTold T.has set.now p.0 result (a.Source state.old) (a.Source state.new) wires.old teller.new }
 {
     match ask_source(set, p, ends, state, wires) {
         Turn::Fired => {
             let word = fire_source(state, words_of(set, p));
-            wires.put_word(ends, word);
+            let out = TileOut {
+                sent1: Some(word),
+                sent2: Some(word),
+                touched: None,
+            };
+            let needs = TileWires {
+                first: None,
+                second: None,
+                sent: None,
+            };
+            wires.put_out(ends, &out);
+            teller.tell(ends, needs, &out, None);
             Turn::Fired
         }
         turn => turn,
@@ -292,12 +347,13 @@ pub fn turn_source(
 }
 
 /// Gives a sink its turn.
-pub fn turn_sink(
+pub fn turn_sink<T: Tells>(
     set: &Set,
     p: ProcId,
     ends: &EndWires,
     state: &mut PortState,
     wires: &mut Wires,
+    teller: &mut T,
 ) -> Turn
     requires valid { IsSet set.now }
     requires sink { kind_at set.now.topo p.0 ≡ Some proc.Sink }
@@ -305,12 +361,19 @@ pub fn turn_sink(
     requires fits { length state.old.local.got ≡ state.old.local.done }
     requires room { capacity_of (port_program set.now p.0) ≤ state.old.room }
     requires wires { length wires.old ≡ length (wires_of set.now.topo) }
-    ensures { IsSinkTurn set.now p.0 result state.old state.new wires.old wires.new }
+    ensures turn { IsSinkTurn set.now p.0 result state.old state.new wires.old wires.new }
+    ensures told { WasTold T.has set.now p.0 result (a.Sink state.old) (a.Sink state.new) wires.old teller.new }
 {
     match ask_sink(set, p, ends, state, wires) {
         Turn::Fired => {
-            let given = wires.take_pair(ends.inputs[4], ends.inputs[9]);
+            let needs = TileWires {
+                first: ends.inputs[4],
+                second: ends.inputs[9],
+                sent: None,
+            };
+            let given = wires.take_pair(needs.first, needs.second);
             fire_sink(state, given.front());
+            teller.tell(ends, needs, &TileOut::NOTHING, None);
             Turn::Fired
         }
         turn => turn,

@@ -7,7 +7,6 @@ ghost use Rattle.raw_network.specs.Runs.{sent_on};
 ghost use Rattle.raw_model.specs.Machine.{sent_to};
 ghost use Rattle.raw_tile.specs.Given.{values_of};
 ghost use Rattle.raw_processor.specs.Given.{sent_out};
-ghost use Rattle.raw_serial.specs.Needs.{sent_by_source};
 
 use arrayvec::ArrayVec;
 use raw_processor::EndWires;
@@ -233,17 +232,5 @@ impl Wires {
     {
         self.put_where(ends.outputs[4], out.sent1);
         self.put_where(ends.outputs[9], out.sent2);
-    }
-
-    /// Appends the word that a source sends to its wire, which is at one of its ends P.
-    #[inline(always)]
-    pub(crate) fn put_word(&mut self, ends: &EndWires, word: u32)
-        requires there { All (λ (m : Sent). m.wire < length self.old) (sent_by_source ends.now word) }
-        requires room { (w : ℕ) → 0 < length (sent_on w (sent_by_source ends.now word)) →
-            length (values_on self.old w) + length (sent_on w (sent_by_source ends.now word)) ≤ 8 }
-        ensures { self.new ≡ appended (sent_by_source ends.now word) self.old }
-    {
-        self.put_where(ends.outputs[4], Some(word));
-        self.put_where(ends.outputs[9], Some(word));
     }
 }

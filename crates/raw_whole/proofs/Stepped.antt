@@ -24,7 +24,7 @@ pub record IsStepped (g : ProgramSet) (k : ℕ) (m : Running) (a : Account) (pas
   pub taken : HasTaken g m (clock_turns g k)
   pub account : IsAccount g k a
   pub sent : HaveSent g (clock_turns g k) passed
-  pub few : (w : ℕ) → slice_index passed w ≤ 2048 * k
+  pub few : (w : ℕ) → slice_index passed w ≤ 2560 * k
   pub stopped : (p : ℕ) → p < proc_count g.topo → StaysStopped m a.turns.items p
 
 module _ (g : ProgramSet) (valid : IsSet g) where
@@ -41,7 +41,7 @@ module _ (g : ProgramSet) (valid : IsSet g) where
 
   module _ (k : ℕ) (m n : Running) (a b : Account) (before after : List ℕ) (was : IsStepped g k m a before) (set : n.set ≡ m.set)
       (cycle : IsCycle m n before after) (account : IsAccount m.set k b) (turns : AreTurns m b.turns.items) (tiles : OnlyTilesOwe m)
-      (few : AreFewMore 2048 before after) where
+      (few : AreFewMore 2560 before after) where
     both : HasTaken g n (clock_turns g (suc k)) × HaveSent g (clock_turns g (suc k)) after
     both = cycle_told g m n k before after was.same was.taken was.sent cycle
 

@@ -1,56 +1,29 @@
-use Rattle.std.proofs.Common.{arith, ◌≡◌, Some, [], subst}
-use Rattle.raw_grid.specs.Wires.{output_wire}
-use Rattle.raw_grid.proofs.WireLaws.{output_within, output_owner}
-use Rattle.raw_model.specs.Program.{ProgramSet}
-use Rattle.raw_clock.specs.Values.{MaySend, AreMore}
-use Rattle.raw_clock.proofs.Sending.{turn_is, turn_holds, turn_keeps, sent_by_ends, no_ends, none_held}
+use Rattle.std.proofs.Common.{◌≡◌, ◌<◌, ap, sym, subst, ◌∙◌, length}
+use Rattle.std.specs.List.{All}
+use Rattle.raw_network.specs.Network.{Sent, event_of}
+use Rattle.raw_grid.specs.Wires.{wires_of}
+use Rattle.raw_model.specs.Machine.{machine_of}
+use Rattle.raw_serial.specs.Told.{Told}
+use Rattle.raw_clock.specs.Values.{AreCounted}
+use Rattle.raw_clock.proofs.Sending.{event_there, unfired_sends}
 use Rattle.raw_clock.proofs.cycle.give.Goals as goal
+use Rattle.raw_clock.proofs.cycle.give.Goals.{In-Fired}
 
-pub returns-then-word-eq0-clause-sent : goal.returns-then-word-eq0-clause-sent
-returns-then-word-eq0-clause-sent c =
-    let m = c.args.machine.now in
-    let n = c.try_step.new.self in
-    let p = c.args.p.0 in
-    let did = c.try_step.ensures in
-    let fits = c.set-set.ensures.fits in
-    let before = c.args.passed.now in
-    let turn = turn_is m n p c.try_step.result did.answer did.set did.fired did.stalled did.stays in
-    let may : MaySend m p 0 = subst (λ word. MaySend m p word) c.if-word-eq0.true c.sending_ends-word.ensures in
-    sent_by_ends m.set.topo c.set-set.ensures.valid.topology p 0 [] m.state.wires n.state.wires before before
-    (none_held m.set.topo p m.state.wires)
-    (no_ends m.set.topo p n.state.wires before)
-    (λ w there own apart.
-    turn_keeps m n p w 0 c.try_step.result c.set-set.ensures.valid (omega (arith, c.requires.there, fits.processors)) (omega (arith, there, fits.wires))
-    own turn may apart)
+-- what the event has is what the step sent
+sent : (c : In-Fired) → c.try_step_telling.new.teller.sent.items ≡ (event_of (machine_of c.args.machine.now.set) c.args.machine.now.state c.args.p.0).sent
+sent c = ap (λ (t : Told). t.sent) (c.try_step_telling.ensures.told c.in-Fired.is)
 
-pub count_sent-requires-clause-more : goal.count_sent-requires-clause-more
-count_sent-requires-clause-more c =
-    λ end w below has wire.
+pub count_sent-requires-clause-there : goal.count_sent-requires-clause-there
+count_sent-requires-clause-there c =
     let m = c.args.machine.now in
-    let n = c.try_step-turn.new.self in
-    let p = c.args.p.0 in
-    let did = c.try_step-turn.ensures in
-    let turn = turn_is m n p c.try_step-turn.result did.answer did.set did.fired did.stalled did.stays in
-    let fits = c.set-set.ensures.fits in
-    let here : output_wire m.set.topo p end ≡ Some w = subst (λ (set : ProgramSet). output_wire set.topo p end ≡ Some w) did.set wire in
-    let within = output_within m.set.topo w p end here in
-    let more = turn_holds m n p w c.try_step-turn.result c.set-set.ensures.valid (omega (arith, c.requires.there, fits.processors)) (omega (arith, within, fits.wires))
-    (output_owner m.set.topo w p end here) turn in
-    omega (arith, more, c.note_held.ensures end w below has here)
+    subst (λ n. All (λ (v : Sent). v.wire < n) c.deref.result.now) (sym c.requires.each)
+    (subst (All (λ (v : Sent). v.wire < length (wires_of m.set.topo))) (sym (c.deref.ensures.0 ∙ sent (goal.at.count_sent-requires-clause-there c).In-Fired))
+    (event_there m.set m.state c.args.p.0))
 
-pub returns-then-goes-clause-sent : goal.returns-then-goes-clause-sent
-returns-then-goes-clause-sent c =
-    let m = c.args.machine.now in
-    let n = c.try_step-turn.new.self in
-    let p = c.args.p.0 in
-    let word = c.sending_ends-word.result in
-    let did = c.try_step-turn.ensures in
-    let fits = c.set-set.ensures.fits in
-    let before = c.args.passed.now in
-    let after = c.count_sent.new.passed in
-    let turn = turn_is m n p c.try_step-turn.result did.answer did.set did.fired did.stalled did.stays in
-    let more = subst (λ (set : ProgramSet). AreMore set.topo p word c.note_held.new.held n.state.wires 10 before after) did.set c.count_sent.ensures.more in
-    sent_by_ends m.set.topo c.set-set.ensures.valid.topology p word c.note_held.new.held m.state.wires n.state.wires before after c.note_held.ensures more
-    (λ w there own apart.
-    turn_keeps m n p w word c.try_step-turn.result c.set-set.ensures.valid (omega (arith, c.requires.there, fits.processors)) (omega (arith, there, fits.wires))
-    own turn c.sending_ends-word.ensures apart)
+pub returns-in-Fired-clause-sent : goal.returns-in-Fired-clause-sent
+returns-in-Fired-clause-sent c =
+    subst (λ sent. AreCounted sent c.args.passed.now c.count_sent.new.passed)
+    (c.deref.ensures.0 ∙ sent (goal.at.returns-in-Fired-clause-sent c).In-Fired) c.count_sent.ensures.counted
+
+pub returns-in_default-clause-sent : goal.returns-in_default-clause-sent
+returns-in_default-clause-sent c = unfired_sends c.try_step_telling.result c.args.machine.now c.args.p.0 c.args.passed.now c.in_default.not-Fired

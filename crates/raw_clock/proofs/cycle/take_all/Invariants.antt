@@ -19,7 +19,7 @@ invariant-procs l =
     × ((ts : List ℕ) → HasTaken l.fn.machine.set l.fn.machine ts → HaveSent l.fn.machine.set ts l.fn.passed →
     HasTaken l.fn.machine.set l.machine (taken ts) × HaveSent l.fn.machine.set (taken ts) l.passed)
     × (length l.passed ≡ length l.fn.passed)
-    × AreFewMore (8 * l.p) l.fn.passed l.passed
+    × AreFewMore (10 * l.p) l.fn.passed l.passed
     × (l.tiles ≡ tile_count l.fn.machine.set.topo)
     × ((q : ℕ) → l.p ≤ q → q < tile_count l.fn.machine.set.topo → turn_of l.machine q ≡ turn_of l.fn.machine q)
     × IsAccount l.fn.machine.set l.cycles l.account

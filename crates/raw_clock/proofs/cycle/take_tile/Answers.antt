@@ -18,7 +18,7 @@ returns-in_default c =
     let fits = c.set-set.ensures.fits in
     record {
       goes = c.goes.ensures ∙ ap goes did.turn.answer;
-      took = subst (λ b. Took b m n p before after) (sym c.goes.ensures) (took_by m n p turn before after did.turn did.sent did.stays);
+      took = subst (λ b. Took b m n p before after) (sym c.goes.ensures) (took_by m n p turn before after did.turn did.sent);
       tiles =
           λ q tile ne.
           tile_keeps m n p q turn c.set-set.ensures.valid (omega (arith, c.requires.tile, fits.processors)) c.requires.tile tile ne did.turn;

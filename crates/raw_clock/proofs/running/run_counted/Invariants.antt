@@ -13,7 +13,7 @@ invariant-cycles l =
     × ((k : ℕ) → k < l.cycles → GoesOn l.fn.machine.set (clock l.fn.machine.set k))
     × IsAccount l.fn.machine.set l.cycles l.account
     × HaveSent l.fn.machine.set (clock_turns l.fn.machine.set l.cycles) l.passed
-    × ((w : ℕ) → slice_index l.passed w ≤ 2048 * l.cycles)
+    × ((w : ℕ) → slice_index l.passed w ≤ 2560 * l.cycles)
     × ((p : ℕ) → p < proc_count l.fn.machine.set.topo → StaysStopped l.machine l.account.turns.items p)
 
 abbrev pub decreases-cycles : goal.decreases-cycles

@@ -10,7 +10,7 @@ use Rattle.raw_prove.proofs.turns.turn_sink.Goals.{In-Fired}
 whole : (c : In-Fired) → IsSerialTurn c.args.set.now c.args.p.0 false serial.Fired (Sink c.args.port.now.local) (Sink c.turn_sink.new.state.local) c.args.wires.now c.turn_sink.new.wires
 whole c =
     subst (λ (t : SerialTurn). IsSerialTurn c.args.set.now c.args.p.0 false t (Sink c.args.port.now.local) (Sink c.turn_sink.new.state.local) c.args.wires.now c.turn_sink.new.wires)
-    c.in-Fired.is c.turn_sink.ensures.whole
+    c.in-Fired.is c.turn_sink.ensures.turn.whole
 
 pub returns-in-Fired-clause-turn : goal.returns-in-Fired-clause-turn
 returns-in-Fired-clause-turn c = λ nodes.
@@ -22,7 +22,7 @@ returns-in-Fired-clause-kept c = record {
   kind = c.requires.unit.kind;
   got = sink_kept c.args.set.now c.args.p.0 c.args.port.now.local c.turn_sink.new.state.local c.args.wires.now c.turn_sink.new.wires
       (whole (goal.at.returns-in-Fired-clause-kept c).In-Fired) c.requires.unit.got;
-  room = omega (arith, c.turn_sink.ensures.room, c.requires.unit.room);
+  room = omega (arith, c.turn_sink.ensures.turn.room, c.requires.unit.room);
 }
 
 pub returns-in_default : goal.returns-in_default
@@ -30,12 +30,12 @@ returns-in_default c =
     let l : PortLocal = c.args.port.now.local in
     let next : PortLocal = c.turn_sink.new.state.local in
     record {
-      turn = λ nodes. sink_idle c.args.set.now c.args.p.0 l nodes c.args.wires.now c.turn_sink.result next c.turn_sink.new.wires c.in_default.not-Fired c.turn_sink.ensures.whole;
+      turn = λ nodes. sink_idle c.args.set.now c.args.p.0 l nodes c.args.wires.now c.turn_sink.result next c.turn_sink.new.wires c.in_default.not-Fired c.turn_sink.ensures.turn.whole;
       kept = record {
         kind = c.requires.unit.kind;
         got = subst (λ (k : PortLocal). length k.got ≡ k.done)
-            (sym (sink_same c.args.set.now c.args.p.0 l next c.args.wires.now c.turn_sink.new.wires c.turn_sink.result c.in_default.not-Fired c.turn_sink.ensures.whole))
+            (sym (sink_same c.args.set.now c.args.p.0 l next c.args.wires.now c.turn_sink.new.wires c.turn_sink.result c.in_default.not-Fired c.turn_sink.ensures.turn.whole))
             c.requires.unit.got;
-        room = omega (arith, c.turn_sink.ensures.room, c.requires.unit.room);
+        room = omega (arith, c.turn_sink.ensures.turn.room, c.requires.unit.room);
       };
     }

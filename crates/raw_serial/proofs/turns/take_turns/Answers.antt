@@ -29,17 +29,17 @@ turn_processor-requires-clause-wires c =
 pub turns-preserved : goal.turns-preserved
 turns-preserved c =
     runs_more c.args.set.now c.args.p.0 c.args.processor.now c.turns.processor c.turn_processor.new.processor
-    c.args.wires.now c.turns.wires c.turn_processor.new.wires c.args.most c.turns.left (c.turns.left - 1) c.turn_processor.result c.requires.proc c.turns.invariant c.turn_processor.ensures
+    c.args.wires.now c.turns.wires c.turn_processor.new.wires c.args.most c.turns.left (c.turns.left - 1) c.turn_processor.result c.requires.proc c.turns.invariant c.turn_processor.ensures.turn
     (subst (λ turn. Leaves turn c.turns.left (c.turns.left - 1)) (sym c.in-Fired.is) (omega (arith, c.turns-test.true)))
 
 pub returns-in-Stalled : goal.returns-in-Stalled
 returns-in-Stalled c =
     runs_more c.args.set.now c.args.p.0 c.args.processor.now c.turns.processor c.turn_processor.new.processor
-    c.args.wires.now c.turns.wires c.turn_processor.new.wires c.args.most c.turns.left c.turns.left c.turn_processor.result c.requires.proc c.turns.invariant c.turn_processor.ensures
+    c.args.wires.now c.turns.wires c.turn_processor.new.wires c.args.most c.turns.left c.turns.left c.turn_processor.result c.requires.proc c.turns.invariant c.turn_processor.ensures.turn
     (subst (λ turn. Leaves turn c.turns.left c.turns.left) (sym c.in-Stalled.is) refl)
 
 pub returns-in_default : goal.returns-in_default
 returns-in_default c =
     runs_more c.args.set.now c.args.p.0 c.args.processor.now c.turns.processor c.turn_processor.new.processor
-    c.args.wires.now c.turns.wires c.turn_processor.new.wires c.args.most c.turns.left c.turns.left c.turn_processor.result c.requires.proc c.turns.invariant c.turn_processor.ensures
+    c.args.wires.now c.turns.wires c.turn_processor.new.wires c.args.most c.turns.left c.turns.left c.turn_processor.result c.requires.proc c.turns.invariant c.turn_processor.ensures.turn
     (unfired_leaves c.turn_processor.result c.turns.left c.in_default.not-Fired)
