@@ -8,20 +8,16 @@ use Rattle.raw_stream_choice.specs.PortNumbers.{numbered}
 use Rattle.raw_stream_choice.proofs.Twins.{are_sinks, has_rows, has_ports, meets_stream}
 use Rattle.raw_stream_choice.proofs.meeting.is_twin_proved.Goals as goal
 
-pub prove_rows-requires-clause-rows : goal.prove_rows-requires-clause-rows
-prove_rows-requires-clause-rows c =
-    subst (λ (t : Stream). HasRows t) (sym c.requires.twin) (has_rows c.args.stream.now c.requires.stream c.requires.few)
-
-pub prove_rows-requires-clause-ports : goal.prove_rows-requires-clause-ports
-prove_rows-requires-clause-ports c =
-    let valid : IsSet c.args.set.now = subst (λ (set : ProgramSet). IsSet set) c.set.view_is c.set.invariant in
-    subst (λ (t : Stream). HasPortsOf c.args.set.now t) (sym c.requires.twin) (has_ports c.args.set.now c.args.stream.now valid c.requires.grid)
-
-pub prove_rows-requires-clause-sinks : goal.prove_rows-requires-clause-sinks
-prove_rows-requires-clause-sinks c =
+pub prove_rows-requires-clause-claim : goal.prove_rows-requires-clause-claim
+prove_rows-requires-clause-claim c =
     let s = c.args.stream.now in
-    subst (λ (t : Stream). AreSinksOf t c.args.sinks.now) (sym c.requires.twin)
-    (subst (λ (order : List ℕ). AreSinksOf (numbered s) order) (sym c.requires.sinks) (are_sinks s c.requires.stream.named))
+    let valid : IsSet c.args.set.now = subst (λ (set : ProgramSet). IsSet set) c.set.view_is c.set.invariant in
+    record {
+      rows = subst (λ (t : Stream). HasRows t) (sym c.requires.twin) (has_rows s c.requires.stream c.requires.few);
+      ports = subst (λ (t : Stream). HasPortsOf c.args.set.now t) (sym c.requires.twin) (has_ports c.args.set.now s valid c.requires.grid);
+      sinks = subst (λ (t : Stream). AreSinksOf t c.args.sinks.now) (sym c.requires.twin)
+          (subst (λ (order : List ℕ). AreSinksOf (numbered s) order) (sym c.requires.sinks) (are_sinks s c.requires.stream.named));
+    }
 
 pub returns-in-Proved : goal.returns-in-Proved
 returns-in-Proved c = λ yes.
