@@ -14,7 +14,7 @@ ghost use Rattle.raw_term.specs.Terms.{Overflows};
 ghost use Rattle.raw_term.specs.TermRows.{term_effect, term_switch};
 ghost use Rattle.raw_term.specs.TermMachine.{numbered};
 ghost use Rattle.raw_term.specs.Switches.{IsControl};
-ghost use Rattle.raw_term.specs.Tiles.{IsFired};
+ghost use Rattle.raw_term.specs.Tiles.{IsFired, MayStep};
 ghost use Rattle.raw_prove.specs.Units.{local_of, IsTile, IsSwitch, IsSource, IsSink, IsUnit};
 ghost use Rattle.raw_prove.specs.Turns.{IsTurn, operand_by};
 
@@ -178,10 +178,8 @@ fn fire_tile(
     table: &mut TermTable,
     given: TileGiven,
 ) -> Result<Option<TileOut>, TermRefusal>
-    requires going { tile.old.mark ≡ Mark.Going }
+    requires may { MayStep tile.old }
     requires inside { tile.old.pc < length program.now }
-    requires count { tile.old.count < MAX_STEPS }
-    requires memory { length tile.old.memory ≡ MEMORY_WORDS }
     requires given { IsGivenFor (next_instruction program.now tile.old) given }
     ensures fired { IfOk result (λ out. IsFired table.old tile.old
         (term_effect table.old (next_instruction program.now tile.old) (length program.now) tile.old
