@@ -5,6 +5,7 @@
 //! memory.
 #![tactic(auto)]
 
+mod counted;
 mod lines;
 mod parts;
 mod waits;

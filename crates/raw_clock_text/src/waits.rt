@@ -5,15 +5,13 @@ ghost use Rattle.raw_io.specs.Writing.{Writes};
 ghost use Rattle.raw_grid.specs.Topology.{proc_count};
 ghost use Rattle.raw_grid.specs.Wires.{wires_of};
 ghost use Rattle.raw_model.specs.Waits.{inputs_at, outputs_at, other_end};
-ghost use Rattle.raw_clock.specs.Counted.{IsCounted};
 ghost use Rattle.raw_clock_text.specs.Text.{wire_waits, waits_of, wait_lines};
 ghost use Rattle.raw_clock_text.specs.Waits.{waits_at};
 
+use crate::counted::CountedRun;
 use crate::lines::wait_line;
-use raw_clock::Cycles;
 use raw_grid::{ProcId, Topo, WireId};
 use raw_io::{Failed, Sink};
-use raw_serial::Machine;
 use raw_state_text::put_line;
 
 // The processor at the other end of a wire at a processor.
@@ -71,52 +69,55 @@ fn put_ends<K: Sink>(
 }
 
 // Puts the lines of the waits of a processor for its inputs.
-fn put_inputs<K: Sink>(m: &Machine<'_>, ran: &Cycles, p: ProcId, out: &mut K) -> Result<(), Failed>
-    requires counted { IsCounted m.now ran.now }
-    requires there { p.0 < proc_count m.now.set.topo }
+fn put_inputs<K: Sink>(run: &CountedRun<'_, '_>, p: ProcId, out: &mut K) -> Result<(), Failed>
+    requires { p.0 < proc_count run.now.machine.now.set.topo }
     ensures { Writes (K.sight out.old) (K.sight out.new)
-        (flat_map (wire_waits m.now.set ran.now.cycles p.0) (inputs_at m.now.set.topo p.0)) result }
+        (flat_map (wire_waits run.now.machine.now.set run.now.counts.now.cycles p.0) (inputs_at run.now.machine.now.set.topo p.0)) result }
 {
-    let topo = &m.set().topo;
-    put_ends(topo, p, &m.ends(p).inputs, &ran.tally.inputs, out)
+    let topo = &run.machine.set().topo;
+    put_ends(
+        topo,
+        p,
+        &run.machine.ends(p).inputs,
+        &run.counts.tally.inputs,
+        out,
+    )
 }
 
 // Puts the lines of the waits of a processor for its outputs.
-fn put_outputs<K: Sink>(m: &Machine<'_>, ran: &Cycles, p: ProcId, out: &mut K) -> Result<(), Failed>
-    requires counted { IsCounted m.now ran.now }
-    requires there { p.0 < proc_count m.now.set.topo }
+fn put_outputs<K: Sink>(run: &CountedRun<'_, '_>, p: ProcId, out: &mut K) -> Result<(), Failed>
+    requires { p.0 < proc_count run.now.machine.now.set.topo }
     ensures { Writes (K.sight out.old) (K.sight out.new)
-        (flat_map (wire_waits m.now.set ran.now.cycles p.0) (outputs_at m.now.set.topo p.0)) result }
+        (flat_map (wire_waits run.now.machine.now.set run.now.counts.now.cycles p.0) (outputs_at run.now.machine.now.set.topo p.0)) result }
 {
-    let topo = &m.set().topo;
-    put_ends(topo, p, &m.ends(p).outputs, &ran.tally.outputs, out)
+    let topo = &run.machine.set().topo;
+    put_ends(
+        topo,
+        p,
+        &run.machine.ends(p).outputs,
+        &run.counts.tally.outputs,
+        out,
+    )
 }
 
 // Puts the lines of the waits of a processor, for its inputs and then for its outputs.
 #[tactic(auto, using(raw_io::proofs::Chains::chained))]
-fn put_processor<K: Sink>(
-    m: &Machine<'_>,
-    ran: &Cycles,
-    p: ProcId,
-    out: &mut K,
-) -> Result<(), Failed>
-    requires counted { IsCounted m.now ran.now }
-    requires there { p.0 < proc_count m.now.set.topo }
+fn put_processor<K: Sink>(run: &CountedRun<'_, '_>, p: ProcId, out: &mut K) -> Result<(), Failed>
+    requires { p.0 < proc_count run.now.machine.now.set.topo }
     ensures { Writes (K.sight out.old) (K.sight out.new)
-        (waits_of m.now.set ran.now.cycles p.0) result }
+        (waits_of run.now.machine.now.set run.now.counts.now.cycles p.0) result }
 {
-    put_inputs(m, ran, p, out)?;
-    put_outputs(m, ran, p, out)
+    put_inputs(run, p, out)?;
+    put_outputs(run, p, out)
 }
 
 /// Puts the lines of all waits, by the processors.
-pub(crate) fn put_waits<K: Sink>(m: &Machine<'_>, ran: &Cycles, out: &mut K) -> Result<(), Failed>
-    requires { IsCounted m.now ran.now }
+pub(crate) fn put_waits<K: Sink>(run: &CountedRun<'_, '_>, out: &mut K) -> Result<(), Failed>
     ensures { Writes (K.sight out.old) (K.sight out.new)
-        (wait_lines m.now.set ran.now.cycles) result }
+        (wait_lines run.now.machine.now.set run.now.counts.now.cycles) result }
 {
-    for p in 0..m.procs() {
-        put_processor(m, ran, ProcId(p), out)?;
+    for p in 0..run.machine.procs() {
+        put_processor(run, ProcId(p), out)?;
     }
     Ok(())
 }

@@ -29,19 +29,19 @@ use raw_stream::StreamFlow;
 use raw_term::{MAX_TERMS, TermRefusal, TermTable};
 use std::alloc::{AllocError, Global};
 
-/// How many words are carried, and how many a row has.
+/// How many words are carried, and how many a row has: no more than a table has terms.
 #[derive(Clone, Copy, Drop)]
 pub struct Widths {
     pub carried: u32,
     pub row: u32,
+    pub ghost few_carried: { carried ≤ MAX_TERMS },
+    pub ghost few: { row ≤ MAX_TERMS },
 }
 
 /// The widths of a stream. None where a table has no room for them.
 pub fn widths_of(stream: &StreamFlow) -> Option<Widths>
     ensures carried { IfSome result (λ w. w.carried ≡ length (first_words stream.now)) }
     ensures row { IfSome result (λ w. w.row ≡ row_width stream.now) }
-    ensures few_carried { IfSome result (λ w. w.carried ≤ MAX_TERMS) }
-    ensures few { IfSome result (λ w. w.row ≤ MAX_TERMS) }
 {
     let most = MAX_TERMS as usize;
     let carried = carried_count(&stream.nodes);
@@ -57,8 +57,6 @@ pub fn widths_of(stream: &StreamFlow) -> Option<Widths>
 
 /// How many words are carried and stand in so many rows. None where a table has no room for them.
 pub fn input_count(widths: Widths, rows: u32) -> Option<u32>
-    requires carried { widths.carried ≤ MAX_TERMS }
-    requires row { widths.row ≤ MAX_TERMS }
     ensures value { IfSome result (λ count. count ≡ widths.carried + rows * widths.row) }
     ensures few { IfSome result (λ count. count ≤ MAX_TERMS) }
 {
@@ -78,7 +76,6 @@ pub(crate) fn carried_in(
     carried: &[Node],
 ) -> Result<Option<Vec<u32>>, AllocError>
     requires many { widths.carried ≡ length (first_words stream.now) }
-    requires few { widths.carried ≤ MAX_TERMS }
     ensures { IfOk result (λ found. IfSome found (λ numbers.
         carried_in stream.now table.old carried.now ≡ record { nodes = table.new; numbers = numbers.items })) }
 {
@@ -98,7 +95,6 @@ pub fn begun(
     count: u32,
 ) -> Result<Option<Machine>, AllocError>
     requires many { widths.carried ≡ length (first_words stream.now) }
-    requires few { widths.carried ≤ MAX_TERMS }
     requires rows { map (λ row. row.items) rows.now ≡ open_rows stream.now (length rows.now) }
     requires count { count ≡ length (first_words stream.now) + length rows.now * row_width stream.now }
     ensures state { IfOk result (λ found. IfSome found (λ machine.
@@ -138,7 +134,6 @@ pub fn arrives(
 ) -> Result<bool, AllocError>
     requires kept { IsKept set.now machine }
     requires many { widths.carried ≡ length (first_words stream.now) }
-    requires few { widths.carried ≤ MAX_TERMS }
     ensures { IfOk result (λ yes. yes ≡ true →
         Arrives set.now stream.now (take later (map (λ row. row.items) rows.now))
         (passed stream.now carried.now (state_of machine) (take later (map (λ row. row.items) rows.now))).values (state_of machine).state
@@ -233,7 +228,6 @@ pub fn has_all_due(
 ) -> Result<bool, AllocError>
     requires kept { IsKept set.now machine }
     requires many { widths.carried ≡ length (first_words stream.now) }
-    requires few { widths.carried ≤ MAX_TERMS }
     ensures { IfOk result (λ yes. yes ≡ true → HasDue stream.now (tile_count set.now.topo)
         (passed stream.now carried.now (state_of machine) (map (λ row. row.items) rows.now)).values lacks.now (state_of machine).state) }
 {

@@ -2,10 +2,9 @@
 ghost use Rattle.std.specs.Prelude.{◌≡◌, ℕ, ◌<◌, true, Some, List, length, IfOk};
 ghost use Rattle.raw_grid.specs.declared.parts.ProcKind.TheVariants as proc;
 ghost use Rattle.raw_grid.specs.Topology.{proc_count, kind_at};
-ghost use Rattle.raw_grid.specs.Wires.{wires_of};
 ghost use Rattle.raw_model.specs.Program.{IsSet};
 ghost use Rattle.raw_model.specs.Local.{Tile, Switch, Source, Sink};
-ghost use Rattle.raw_processor.specs.Ends.{AreEndsOf};
+ghost use Rattle.raw_prove.specs.Standing.{EndsStand};
 ghost use Rattle.raw_flow.specs.declared.node.Node.{Node};
 ghost use Rattle.raw_prove.specs.Units.{local_of, state_of, IsTile, IsSwitch};
 ghost use Rattle.raw_prove.specs.Turns.{IsTurn};
@@ -29,10 +28,8 @@ fn turn_tile_unit(
     wires: &mut Wires,
     table: &mut TermTable,
 ) -> Result<Turn, AllocError>
-    requires valid { IsSet set.now }
-    requires ends { AreEndsOf set.now.topo p.0 ends.now }
+    requires stands { EndsStand set.now p.0 ends.now wires.old }
     requires unit { IsTile set.now p.0 unit.old }
-    requires wires { length wires.old ≡ length (wires_of set.now.topo) }
     ensures turn { IfOk result (λ turn.
         IsTurn set.now p.0 table.old (Tile unit.old.tile) wires.old turn table.new (Tile unit.new.tile) wires.new) }
     ensures kept { IsTile set.now p.0 unit.new }
@@ -49,10 +46,8 @@ fn turn_switch_unit(
     wires: &mut Wires,
     table: &mut TermTable,
 ) -> Result<Turn, AllocError>
-    requires valid { IsSet set.now }
-    requires ends { AreEndsOf set.now.topo p.0 ends.now }
+    requires stands { EndsStand set.now p.0 ends.now wires.old }
     requires unit { IsSwitch set.now p.0 unit.old }
-    requires wires { length wires.old ≡ length (wires_of set.now.topo) }
     ensures turn { IfOk result (λ turn.
         IsTurn set.now p.0 table.old (Switch unit.old.state) wires.old turn table.new (Switch unit.new.state) wires.new) }
     ensures kept { IsSwitch set.now p.0 unit.new }
@@ -68,10 +63,8 @@ fn turn_source_unit(
     unit: &mut SourceUnit,
     wires: &mut Wires,
 ) -> Turn
-    requires valid { IsSet set.now }
+    requires stands { EndsStand set.now p.0 ends.now wires.old }
     requires source { kind_at set.now.topo p.0 ≡ Some proc.Source }
-    requires ends { AreEndsOf set.now.topo p.0 ends.now }
-    requires wires { length wires.old ≡ length (wires_of set.now.topo) }
     ensures { (nodes : List Node) →
         IsTurn set.now p.0 nodes (Source unit.old.port.local) wires.old result nodes (Source unit.new.port.local) wires.new }
 {
@@ -89,10 +82,8 @@ fn turn_sink_unit(
     port: &mut PortState,
     wires: &mut Wires,
 ) -> Turn
-    requires valid { IsSet set.now }
-    requires ends { AreEndsOf set.now.topo p.0 ends.now }
+    requires stands { EndsStand set.now p.0 ends.now wires.old }
     requires unit { IsSinkWith set.now 0 p.0 port.old }
-    requires wires { length wires.old ≡ length (wires_of set.now.topo) }
     ensures turn { (nodes : List Node) →
         IsTurn set.now p.0 nodes (Sink port.old.local) wires.old result nodes (Sink port.new.local) wires.new }
     ensures kept { (spare : ℕ) → IsSinkWith set.now spare p.0 port.old → IsSinkWith set.now spare p.0 port.new }
@@ -112,10 +103,8 @@ fn turn_unit(
     wires: &mut Wires,
     table: &mut TermTable,
 ) -> Result<Turn, AllocError>
-    requires valid { IsSet set.now }
-    requires ends { AreEndsOf set.now.topo p.0 ends.now }
+    requires stands { EndsStand set.now p.0 ends.now wires.old }
     requires unit { IsUnitWith set.now 0 p.0 unit.old }
-    requires wires { length wires.old ≡ length (wires_of set.now.topo) }
     ensures turn { IfOk result (λ turn.
         IsTurn set.now p.0 table.old (local_of unit.old) wires.old turn table.new (local_of unit.new) wires.new) }
     ensures kept { (spare : ℕ) → IsUnitWith set.now spare p.0 unit.old → IsUnitWith set.now spare p.0 unit.new }

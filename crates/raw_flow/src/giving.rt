@@ -7,7 +7,7 @@ ghost use Rattle.raw_flow.specs.Flows.{IsNode, with_input, inputs_in};
 ghost use Rattle.raw_flow.specs.Places.{Holding, with_value, AreMarks};
 ghost use Rattle.raw_flow.specs.Ports.{source_of, sink_of, ArePorts};
 ghost use Rattle.raw_flow.specs.Compiled.{tiles_in, source_tile, sink_tile, home, op_ins, one_haul, carried, moved, taken_at, const_code, apply_code, input_parts, held_input, node_parts, held_node, given_at};
-ghost use Rattle.raw_flow.specs.Given.{AreGiven, AreReady};
+ghost use Rattle.raw_flow.specs.Given.{AreGiven, AreReady, NodeStands};
 
 use crate::flow::{Flow, with_input};
 use crate::limits::MAX_NODES;
@@ -189,10 +189,8 @@ fn move_value(
     v: u32,
     t: u32,
 ) -> Result<(), GiveRefusal>
-    requires value { v < length flow.now.nodes }
-    requires ports { ArePorts flow.now ports.now }
+    requires stands { NodeStands flow.now ports.now programs.now places.now v }
     requires tile { t < tiles_in flow.now }
-    requires ready { AreReady flow.now programs.now places.now }
     ensures moved { (held : List Holding) → AreMarks places.old held →
         OnOk result (AreGiven (tiles_in flow.now) (moved flow.now ports.now held v t) (with_value held v t) programs.old programs.new places.new) }
     ensures ready { OnOk result (AreReady flow.now programs.new places.new) }
@@ -216,9 +214,7 @@ fn take_input(
     v: u32,
 ) -> Result<(), GiveRefusal>
     requires input { k < inputs_in flow.now.nodes }
-    requires value { v < length flow.now.nodes }
-    requires ports { ArePorts flow.now ports.now }
-    requires ready { AreReady flow.now programs.now places.now }
+    requires stands { NodeStands flow.now ports.now programs.now places.now v }
     ensures given { (held : List Holding) → AreMarks places.old held →
         OnOk result (AreGiven (tiles_in flow.now) (taken_at flow.now (source_of ports.now k) v) (with_value held v (source_tile flow.now ports.now k)) programs.old programs.new places.new) }
     ensures ready { OnOk result (AreReady flow.now programs.new places.new) }
@@ -244,9 +240,7 @@ pub(crate) fn give_input(
     node: Node,
 ) -> Result<usize, GiveRefusal>
     requires inputs { with_input node k ≤ inputs_in flow.now.nodes }
-    requires value { v < length flow.now.nodes }
-    requires ports { ArePorts flow.now ports.now }
-    requires ready { AreReady flow.now programs.now places.now }
+    requires stands { NodeStands flow.now ports.now programs.now places.now v }
     ensures count { IfOk result (λ next. next ≡ with_input node k) }
     ensures given { (held : List Holding) → AreMarks places.old held →
         OnOk result (AreGiven (tiles_in flow.now) (input_parts flow.now ports.now k v node) (held_input flow.now ports.now held k v node) programs.old programs.new places.new) }
@@ -313,11 +307,9 @@ fn give_apply(
     a: u32,
     b: u32,
 ) -> Result<(), GiveRefusal>
-    requires value { v < length flow.now.nodes }
-    requires ports { ArePorts flow.now ports.now }
+    requires stands { NodeStands flow.now ports.now programs.now places.now v }
     requires first { a < v }
     requires second { b < v }
-    requires ready { AreReady flow.now programs.now places.now }
     ensures given { (held : List Holding) → AreMarks places.old held →
         OnOk result (AreGiven (tiles_in flow.now) (node_parts flow.now ports.now held v (Node.Apply op a b)) (held_node flow.now ports.now held v (Node.Apply op a b)) programs.old programs.new places.new) }
     ensures ready { OnOk result (AreReady flow.now programs.new places.new) }
@@ -343,10 +335,8 @@ pub(crate) fn give_node(
     v: u32,
     node: Node,
 ) -> Result<(), GiveRefusal>
-    requires value { v < length flow.now.nodes }
-    requires ports { ArePorts flow.now ports.now }
+    requires stands { NodeStands flow.now ports.now programs.now places.now v }
     requires node { IsNode v node }
-    requires ready { AreReady flow.now programs.now places.now }
     ensures given { (held : List Holding) → AreMarks places.old held →
         OnOk result (AreGiven (tiles_in flow.now) (node_parts flow.now ports.now held v node) (held_node flow.now ports.now held v node) programs.old programs.new places.new) }
     ensures ready { OnOk result (AreReady flow.now programs.new places.new) }
@@ -377,9 +367,7 @@ pub(crate) fn give_out(
     v: u32,
 ) -> Result<(), GiveRefusal>
     requires out { i < length flow.now.outs }
-    requires value { v < length flow.now.nodes }
-    requires ports { ArePorts flow.now ports.now }
-    requires ready { AreReady flow.now programs.now places.now }
+    requires stands { NodeStands flow.now ports.now programs.now places.now v }
     ensures given { (held : List Holding) → AreMarks places.old held →
         OnOk result (AreGiven (tiles_in flow.now) (given_at flow.now ports.now held (sink_of ports.now i) v) (with_value held v (sink_tile flow.now ports.now i)) programs.old programs.new places.new) }
     ensures ready { OnOk result (AreReady flow.now programs.new places.new) }

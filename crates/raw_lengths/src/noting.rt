@@ -1,16 +1,15 @@
 //! Steps of a machine with terms that branch on a term as where it is not 0.
 ghost use Rattle.std.specs.Prelude.{◌≡◌, ℕ, ◌+◌, ◌*◌, ◌<◌, ◌≤◌, ◌||◌, nat_le, None, true, false, Some, [], List, length, slice_index, IfOk, IfSome, IsSome, OnErr};
 ghost use Rattle.raw_grid.specs.Topology.{tile_count, proc_count};
-ghost use Rattle.raw_grid.specs.Wires.{wires_of};
 ghost use Rattle.raw_tile_isa.specs.Instruction.{is_network};
 ghost use Rattle.raw_model.specs.Program.{IsSet};
 ghost use Rattle.raw_model.specs.Local.{Tile, Switch};
 ghost use Rattle.raw_model.specs.Machine.{is_stopped, is_ended, tile_code, switch_code};
 ghost use Rattle.raw_model.specs.TileTable.{next_instruction, following, moved};
 ghost use Rattle.raw_model.specs.SwitchTable.{next_instruction as next_switch_instruction};
-ghost use Rattle.raw_processor.specs.Ends.{AreEndsOf};
 ghost use Rattle.raw_term.specs.Terms.{word_in};
 ghost use Rattle.raw_prove.specs.Units.{local_of, state_of, IsTile, IsSwitch};
+ghost use Rattle.raw_prove.specs.Standing.{EndsStand};
 ghost use Rattle.raw_model.specs.Rest.{enabled};
 ghost use Rattle.raw_rows.specs.Noted.{noted_pc, noted_at, noting_step, along_noting};
 ghost use Rattle.raw_cut.specs.Kept.{IsUnitWith, IsKeptWith, IsKept};
@@ -215,10 +214,8 @@ fn step_switch(
     wires: &mut Wires,
     table: &mut TermTable,
 ) -> Result<Look, AllocError>
-    requires valid { IsSet set.now }
-    requires ends { AreEndsOf set.now.topo p.0 ends.now }
+    requires stands { EndsStand set.now p.0 ends.now wires.old }
     requires unit { IsSwitch set.now p.0 unit.old }
-    requires wires { length wires.old ≡ length (wires_of set.now.topo) }
     requires going { is_stopped set.now p.0 (Switch unit.old.state) ≡ false }
     requires look { IsLookAt table.old unit.old.state (next_switch_instruction (switch_code set.now p.0) unit.old.state) }
     ensures look { IfOk result (λ look.
@@ -250,10 +247,8 @@ fn note_switch(
     wires: &mut Wires,
     table: &mut TermTable,
 ) -> Result<Look, AllocError>
-    requires valid { IsSet set.now }
-    requires ends { AreEndsOf set.now.topo p.0 ends.now }
+    requires stands { EndsStand set.now p.0 ends.now wires.old }
     requires unit { IsSwitch set.now p.0 unit.old }
-    requires wires { length wires.old ≡ length (wires_of set.now.topo) }
     ensures look { IfOk result (λ look.
         IsLook set.now p.0 table.old (Switch unit.old.state) wires.old look table.new (Switch unit.new.state) wires.new) }
     ensures kept { IsSwitch set.now p.0 unit.new }
@@ -276,10 +271,8 @@ fn note_unit(
     wires: &mut Wires,
     table: &mut TermTable,
 ) -> Result<Look, AllocError>
-    requires valid { IsSet set.now }
-    requires ends { AreEndsOf set.now.topo p.0 ends.now }
+    requires stands { EndsStand set.now p.0 ends.now wires.old }
     requires unit { IsUnitWith set.now 0 p.0 unit.old }
-    requires wires { length wires.old ≡ length (wires_of set.now.topo) }
     ensures look { IfOk result (λ look.
         IsLook set.now p.0 table.old (local_of unit.old) wires.old look table.new (local_of unit.new) wires.new) }
     ensures kept { (spare : ℕ) → IsUnitWith set.now spare p.0 unit.old → IsUnitWith set.now spare p.0 unit.new }

@@ -4,38 +4,19 @@ ghost use Rattle.std.specs.List.{flat_map, range_with_len};
 ghost use Rattle.std.specs.Option.{option_map};
 ghost use Rattle.raw_text.specs.Text.{text_lines};
 ghost use Rattle.raw_grid.specs.Topology.{tile_count};
-ghost use Rattle.raw_lines.specs.Sections.{sections_in, part_for};
+ghost use Rattle.raw_lines.specs.LabelsOf.{lines_in};
 ghost use Rattle.raw_lines.specs.Lines.{name_of, told_of, section_text, program_text, lines_text, label_lines, number_lines, processor_of, labels_of, numbers_of, sources_text};
 ghost use Rattle.raw_lines.specs.Reading.{seen};
 
 use crate::kind::ProgramKind;
 use crate::lines::push_section;
-use crate::section::{ProgramSection, section_for, sections};
+use crate::placing::TextLabels;
 use crate::telling::{push_label_lines, push_number_lines};
 use raw_asm::Section;
 use raw_grid::Topo;
 use raw_state_text::Line;
 use raw_text::Text;
 use std::alloc::{AllocError, Global};
-
-/// The lines that the program of a tile has, or of its switch, in the first `to` lines of a text.
-pub(crate) fn part_for<'a>(
-    text: &'a Text,
-    to: usize,
-    sections: &[ProgramSection],
-    kind: ProgramKind,
-    topo: &Topo,
-    tile: u32,
-) -> Option<Section<'a>>
-    requires within { to ≤ length (text_lines text.now) }
-    requires sections { sections.now ≡ sections_in (take to (text_lines text.now)) }
-    ensures { option_map seen result ≡ part_for (take to (text_lines text.now)) sections.now kind topo.now tile }
-{
-    match section_for(sections, kind, topo, tile) {
-        None => None,
-        Some(section) => Some(Section::new(text, section.from, section.to)),
-    }
-}
 
 // The name of a tile or of a switch.
 fn name_of(kind: ProgramKind, topo: &Topo, tile: u32) -> Line
@@ -80,20 +61,15 @@ fn push_program(
 fn push_programs(
     alloc: Global,
     bytes: &mut Vec<u8>,
-    text: &Text,
-    to: usize,
-    topo: &Topo,
-    sections: &[ProgramSection],
+    labels: &TextLabels<'_>,
     kind: ProgramKind,
 ) -> Result<(), AllocError>
-    requires within { to ≤ length (text_lines text.now) }
-    requires sections { sections.now ≡ sections_in (take to (text_lines text.now)) }
     ensures { OnOk result (bytes.new.items ≡ bytes.old.items ++
-        flat_map (program_text kind topo.now (take to (text_lines text.now)) sections.now) (range_with_len 0 (tile_count topo.now))) }
+        flat_map (program_text kind labels.now.topo.now (lines_in labels.now) labels.now.sections.items) (range_with_len 0 (tile_count labels.now.topo.now))) }
 {
-    for tile in 0..topo.tiles() {
-        let part = part_for(text, to, sections, kind, topo, tile);
-        push_program(alloc, bytes, &name_of(kind, topo, tile), part, kind)?;
+    for tile in 0..labels.topo.tiles() {
+        let part = labels.part_for(kind, tile);
+        push_program(alloc, bytes, &name_of(kind, labels.topo, tile), part, kind)?;
     }
     Ok(())
 }
@@ -106,26 +82,10 @@ pub fn list_lines(alloc: Global, text: &Text, to: usize, topo: &Topo) -> Result<
     requires { to ≤ length (text_lines text.now) }
     ensures { IfOk result (λ bytes. bytes.items ≡ lines_text topo.now (take to (text_lines text.now))) }
 {
-    let sections = sections(alloc, &Section::new(text, 0, to))?;
+    let labels = TextLabels::of(alloc, text, to, topo)?;
     let mut bytes = Vec::new(alloc);
-    push_programs(
-        alloc,
-        &mut bytes,
-        text,
-        to,
-        topo,
-        &sections,
-        ProgramKind::Tile,
-    )?;
-    push_programs(
-        alloc,
-        &mut bytes,
-        text,
-        to,
-        topo,
-        &sections,
-        ProgramKind::Switch,
-    )?;
+    push_programs(alloc, &mut bytes, &labels, ProgramKind::Tile)?;
+    push_programs(alloc, &mut bytes, &labels, ProgramKind::Switch)?;
     Ok(bytes)
 }
 
@@ -147,20 +107,15 @@ fn push_labels(
 // Appends the labels of all tiles, or of all switches.
 fn push_all_labels(
     bytes: &mut Vec<u8>,
-    text: &Text,
-    to: usize,
-    topo: &Topo,
-    sections: &[ProgramSection],
+    labels: &TextLabels<'_>,
     kind: ProgramKind,
 ) -> Result<(), AllocError>
-    requires within { to ≤ length (text_lines text.now) }
-    requires sections { sections.now ≡ sections_in (take to (text_lines text.now)) }
     ensures { OnOk result (bytes.new.items ≡ bytes.old.items ++
-        flat_map (labels_of kind topo.now (take to (text_lines text.now)) sections.now) (range_with_len 0 (tile_count topo.now))) }
+        flat_map (labels_of kind labels.now.topo.now (lines_in labels.now) labels.now.sections.items) (range_with_len 0 (tile_count labels.now.topo.now))) }
 {
-    for tile in 0..topo.tiles() {
-        let part = part_for(text, to, sections, kind, topo, tile);
-        push_labels(bytes, part, kind, processor_of(kind, topo, tile))?;
+    for tile in 0..labels.topo.tiles() {
+        let part = labels.part_for(kind, tile);
+        push_labels(bytes, part, kind, processor_of(kind, labels.topo, tile))?;
     }
     Ok(())
 }
@@ -183,20 +138,15 @@ fn push_numbers(
 // Appends the lines of the instructions of all tiles, or of all switches.
 fn push_all_numbers(
     bytes: &mut Vec<u8>,
-    text: &Text,
-    to: usize,
-    topo: &Topo,
-    sections: &[ProgramSection],
+    labels: &TextLabels<'_>,
     kind: ProgramKind,
 ) -> Result<(), AllocError>
-    requires within { to ≤ length (text_lines text.now) }
-    requires sections { sections.now ≡ sections_in (take to (text_lines text.now)) }
     ensures { OnOk result (bytes.new.items ≡ bytes.old.items ++
-        flat_map (numbers_of kind topo.now (take to (text_lines text.now)) sections.now) (range_with_len 0 (tile_count topo.now))) }
+        flat_map (numbers_of kind labels.now.topo.now (lines_in labels.now) labels.now.sections.items) (range_with_len 0 (tile_count labels.now.topo.now))) }
 {
-    for tile in 0..topo.tiles() {
-        let part = part_for(text, to, sections, kind, topo, tile);
-        push_numbers(bytes, part, kind, processor_of(kind, topo, tile))?;
+    for tile in 0..labels.topo.tiles() {
+        let part = labels.part_for(kind, tile);
+        push_numbers(bytes, part, kind, processor_of(kind, labels.topo, tile))?;
     }
     Ok(())
 }
@@ -213,10 +163,10 @@ pub fn push_sources(
     requires { to ≤ length (text_lines text.now) }
     ensures { OnOk result (bytes.new.items ≡ bytes.old.items ++ sources_text topo.now (take to (text_lines text.now))) }
 {
-    let sections = sections(alloc, &Section::new(text, 0, to))?;
-    push_all_labels(bytes, text, to, topo, &sections, ProgramKind::Tile)?;
-    push_all_labels(bytes, text, to, topo, &sections, ProgramKind::Switch)?;
-    push_all_numbers(bytes, text, to, topo, &sections, ProgramKind::Tile)?;
-    push_all_numbers(bytes, text, to, topo, &sections, ProgramKind::Switch)?;
+    let labels = TextLabels::of(alloc, text, to, topo)?;
+    push_all_labels(bytes, &labels, ProgramKind::Tile)?;
+    push_all_labels(bytes, &labels, ProgramKind::Switch)?;
+    push_all_numbers(bytes, &labels, ProgramKind::Tile)?;
+    push_all_numbers(bytes, &labels, ProgramKind::Switch)?;
     Ok(())
 }

@@ -7,9 +7,8 @@ ghost use Rattle.raw_lines.specs.Sections.{sections_in};
 ghost use Rattle.raw_lines.specs.Placing.{place_among};
 
 use crate::kind::{ProgramKind, size_in};
-use crate::listing::part_for;
 use crate::naming::is_name;
-use crate::section::{ProgramSection, sections};
+use crate::section::{ProgramSection, section_for, sections};
 use raw_asm::{Section, Tokens};
 use raw_grid::{ProcId, Topo};
 use raw_text::Text;
@@ -40,12 +39,12 @@ fn place_among(kind: ProgramKind, name: &[u8], section: &Section<'_>) -> Option<
     None
 }
 
-/// The labels of the programs that the first lines of a text say.
+/// The programs that the first lines of a text say, by their sections, and where their labels stand.
 #[derive(Drop)]
 pub struct TextLabels<'t> {
     text: &'t Text,
     to: usize,
-    topo: &'t Topo,
+    pub(crate) topo: &'t Topo,
     sections: Vec<ProgramSection>,
     ghost within: { to ≤ length (text_lines text.now) },
     ghost all: { sections.items ≡ sections_in (take to (text_lines text.now)) },
@@ -53,8 +52,11 @@ pub struct TextLabels<'t> {
 
 impl<'t> TextLabels<'t> {
     ghost use Rattle.std.specs.Prelude.{◌≡◌, ◌≤◌, ◌<◌, length, take, IfOk};
+    ghost use Rattle.std.specs.Option.{option_map};
     ghost use Rattle.raw_text.specs.Text.{text_lines};
     ghost use Rattle.raw_grid.specs.Topology.{tile_count};
+    ghost use Rattle.raw_lines.specs.Sections.{part_for};
+    ghost use Rattle.raw_lines.specs.Reading.{seen};
     ghost use Rattle.raw_lines.specs.Placing.{place_for, label_places};
     ghost use Rattle.raw_lines.specs.LabelsOf.{lines_in, places_in};
 
@@ -68,6 +70,21 @@ impl<'t> TextLabels<'t> {
         requires { to ≤ length (text_lines text.now) }
         ensures { IfOk result (λ labels. places_in labels ≡ label_places topo.now (take to (text_lines text.now))) }
     {
+        let labels = TextLabels::of(alloc, text, to, topo)?;
+        Ok(labels)
+    }
+
+    // The same, for who goes through the programs.
+    pub(crate) fn of(
+        alloc: Global,
+        text: &'t Text,
+        to: usize,
+        topo: &'t Topo,
+    ) -> Result<TextLabels<'t>, AllocError>
+        requires { to ≤ length (text_lines text.now) }
+        ensures topo { IfOk result (λ labels. labels.topo.now ≡ topo.now) }
+        ensures lines { IfOk result (λ labels. lines_in labels ≡ take to (text_lines text.now)) }
+    {
         let sections = sections(alloc, &Section::new(text, 0, to))?;
         Ok(TextLabels {
             text,
@@ -77,11 +94,21 @@ impl<'t> TextLabels<'t> {
         })
     }
 
+    // The lines that the program of a tile has, or of its switch.
+    pub(crate) fn part_for(&self, kind: ProgramKind, tile: u32) -> Option<Section<'t>>
+        ensures { option_map seen result ≡ part_for (lines_in self.now) self.now.sections.items kind self.now.topo.now tile }
+    {
+        match section_for(&self.sections, kind, self.topo, tile) {
+            None => None,
+            Some(section) => Some(Section::new(self.text, section.from, section.to)),
+        }
+    }
+
     // Where a label stands in the program of a tile, or of its switch.
     fn place_for(&self, kind: ProgramKind, tile: u32, name: &[u8]) -> Option<u32>
         ensures { result ≡ place_for kind self.now.topo.now (lines_in self.now) tile name.now }
     {
-        match part_for(self.text, self.to, &self.sections, kind, self.topo, tile) {
+        match self.part_for(kind, tile) {
             None => None,
             Some(part) => place_among(kind, name, &part),
         }

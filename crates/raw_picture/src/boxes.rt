@@ -2,16 +2,16 @@
 ghost use Rattle.std.specs.Prelude.{◌≡◌, ◌+◌, ◌<◌, ◌≤◌, ◌++◌, length};
 ghost use Rattle.raw_io.specs.Writing.{Writes};
 ghost use Rattle.raw_grid.specs.Topology.{tile_count, proc_count};
-ghost use Rattle.raw_picture.specs.Told.{AreTold};
 ghost use Rattle.raw_picture.specs.Boxes.{box_class, box_title, box_with, box_of, switch_corner, boxes};
 
 use crate::course::{Point, cell};
+use crate::drawn::Drawn;
 use crate::forms::{CLOSE, OPEN, labelled, push_labelled, rect, text, title};
 use crate::layout::{BOX_HEIGHT, SWITCH_LEFT, SWITCH_TOP, SWITCH_WIDTH, TILE_WIDTH};
 use crate::names::{
     Progress, first_word, name, no_code, no_switch_code, progress_of, push_name, shown_mark,
 };
-use crate::told::{Told, is_told};
+use crate::told::is_told;
 use raw_grid::{ProcId, Topo};
 use raw_io::{Failed, Sink, put_each};
 use raw_serial::Machine;
@@ -105,55 +105,46 @@ fn put_box_with<K: Sink>(
 // Puts the box of processor `p`, a tile or a switch.
 #[tactic(auto, unfolding(crate::specs::Boxes::box_of))]
 fn put_box<K: Sink>(
-    m: &Machine<'_>,
-    told: Told,
+    drawn: &Drawn<'_, '_>,
     p: ProcId,
     empty: bool,
     at: Point,
     width: u32,
     out: &mut K,
 ) -> Result<(), Failed>
-    requires told { AreTold m.now.set m.now.state told }
-    requires there { p.0 < proc_count m.now.set.topo }
+    requires there { p.0 < proc_count drawn.now.machine.now.set.topo }
     requires right { at.x ≤ 200000 }
     requires below { at.y ≤ 200000 }
     requires wide { 8 ≤ width }
     requires narrow { width ≤ SWITCH_WIDTH }
     ensures { Writes (K.sight out.old) (K.sight out.new)
-        (box_of m.now.set m.now.state p.0 empty at width) result }
+        (box_of drawn.now.machine.now.set drawn.now.machine.now.state p.0 empty at width) result }
 {
-    let mark = shown_mark(m, p, empty);
+    let mark = shown_mark(drawn.machine, p, empty);
     let shown = Shown {
         mark: mark.as_bytes(),
-        on: is_told(m, told, p),
-        far: progress_of(m, p),
+        on: is_told(drawn, p),
+        far: progress_of(drawn.machine, p),
     };
-    put_box_with(&m.set().topo, p, at, width, shown, out)
+    put_box_with(&drawn.machine.set().topo, p, at, width, shown, out)
 }
 
 /// Puts the box of a tile, and that of its switch.
 #[tactic(auto, unfolding(crate::specs::Boxes::boxes), using(raw_io::proofs::Chains::chained))]
-pub(crate) fn put_boxes<K: Sink>(
-    m: &Machine<'_>,
-    told: Told,
-    t: u32,
-    out: &mut K,
-) -> Result<(), Failed>
-    requires told { AreTold m.now.set m.now.state told }
-    requires there { t < tile_count m.now.set.topo }
-    ensures { Writes (K.sight out.old) (K.sight out.new) (boxes m.now.set m.now.state t) result }
+pub(crate) fn put_boxes<K: Sink>(drawn: &Drawn<'_, '_>, t: u32, out: &mut K) -> Result<(), Failed>
+    requires { t < tile_count drawn.now.machine.now.set.topo }
+    ensures { Writes (K.sight out.old) (K.sight out.new) (boxes drawn.now.machine.now.set drawn.now.machine.now.state t) result }
 {
-    let set = m.set();
+    let set = drawn.machine.set();
     let c = cell(&set.topo, t);
     let beside = Point {
         x: c.x + SWITCH_LEFT,
         y: c.y + SWITCH_TOP,
     };
     let switch = ProcId(set.topo.tiles() + t);
-    put_box(m, told, ProcId(t), no_code(set, t), c, TILE_WIDTH, out)?;
+    put_box(drawn, ProcId(t), no_code(set, t), c, TILE_WIDTH, out)?;
     put_box(
-        m,
-        told,
+        drawn,
         switch,
         no_switch_code(set, t),
         beside,

@@ -8,6 +8,7 @@ ghost use Rattle.raw_outcome.specs.Told.{told};
 ghost use Rattle.raw_picture.specs.Told.{AnswerFits};
 ghost use Rattle.raw_picture.specs.Picture.{picture, picture_of};
 
+use crate::drawn::Drawn;
 use crate::frame::frame_of;
 use crate::layers::{put_figures, put_ground};
 use crate::legend::put_legend;
@@ -24,10 +25,14 @@ fn put_picture<K: Sink>(m: &Machine<'_>, o: Outcome, out: &mut K) -> Result<(), 
     requires outcome { told (waits_for m.now.set m.now.state) o ≡ outcome m.now.set m.now.state }
     ensures { Writes (K.sight out.old) (K.sight out.new) (picture_of m.now.set m.now.state) result }
 {
-    let told = tell(m, o);
-    put_front(m, o, told, out)?;
-    put_ground(m, told, out)?;
-    put_figures(m, told, out)?;
+    let drawn = Drawn {
+        machine: m,
+        answer: o,
+        listed: tell(m, o),
+    };
+    put_front(&drawn, out)?;
+    put_ground(&drawn, out)?;
+    put_figures(&drawn, out)?;
     put_legend(frame_of(&m.set().topo), out)
 }
 

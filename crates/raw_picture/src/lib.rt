@@ -8,6 +8,7 @@
 mod boxes;
 mod course;
 mod drawing;
+mod drawn;
 mod forms;
 mod frame;
 mod ground;

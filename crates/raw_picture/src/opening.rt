@@ -1,23 +1,20 @@
 //! What stands before the grid: the title, the description, the style, the head lines.
 ghost use Rattle.std.specs.Prelude.{◌≡◌, ◌+◌, ◌≤◌, ◌++◌, length};
 ghost use Rattle.raw_io.specs.Writing.{Writes};
-ghost use Rattle.raw_model.specs.Waits.{waits_for};
 ghost use Rattle.raw_model.specs.Outcomes.{outcome};
-ghost use Rattle.raw_outcome.specs.Told.{told};
 ghost use Rattle.raw_picture.specs.Forms.{text_end};
-ghost use Rattle.raw_picture.specs.Told.{AnswerFits, AreTold, say};
+ghost use Rattle.raw_picture.specs.Told.{AnswerFits, say};
 ghost use Rattle.raw_picture.specs.Frame.{IsFrame, frame_of};
 ghost use Rattle.raw_picture.specs.Opening.{svg_start, grid_text, size_text, title_text, opening, set_text, head, front};
 
+use crate::drawn::Drawn;
 use crate::forms::{push_labelled, rect, text, text_head, title};
 use crate::frame::{Frame, frame_of};
 use crate::style::put_style;
-use crate::told::{Told, outcome_word, put_description, say};
+use crate::told::{outcome_word, put_description, say};
 use raw_grid::Topo;
 use raw_io::{Failed, Sink, put_each};
 use raw_model::Set;
-use raw_outcome::Outcome;
-use raw_serial::Machine;
 use raw_state_text::Line;
 
 // The size of the grid.
@@ -51,14 +48,13 @@ fn size_text(f: Frame) -> Line
 
 // The title of the document.
 #[tactic(auto, unfolding(crate::specs::Opening::title_text))]
-fn title_text(m: &Machine<'_>, o: Outcome) -> Line
-    requires { told (waits_for m.now.set m.now.state) o ≡ outcome m.now.set m.now.state }
-    ensures text { result ≡ title_text m.now.set m.now.state }
+fn title_text(drawn: &Drawn<'_, '_>) -> Line
+    ensures text { result ≡ title_text drawn.now.machine.now.set drawn.now.machine.now.state }
     ensures len { length result ≤ 64 }
 {
-    let mut line = grid_text(&m.set().topo);
+    let mut line = grid_text(&drawn.machine.set().topo);
     line.push_text(b" at rest: ");
-    line.push_text(outcome_word(m, o));
+    line.push_text(outcome_word(drawn));
     line
 }
 
@@ -72,14 +68,13 @@ fn svg_start() -> &'static [u8]
 
 // Puts the first lines.
 #[tactic(auto, unfolding(crate::specs::Opening::opening))]
-fn put_opening<K: Sink>(m: &Machine<'_>, o: Outcome, out: &mut K) -> Result<(), Failed>
-    requires { told (waits_for m.now.set m.now.state) o ≡ outcome m.now.set m.now.state }
-    ensures { Writes (K.sight out.old) (K.sight out.new) (opening m.now.set m.now.state) result }
+fn put_opening<K: Sink>(drawn: &Drawn<'_, '_>, out: &mut K) -> Result<(), Failed>
+    ensures { Writes (K.sight out.old) (K.sight out.new) (opening drawn.now.machine.now.set drawn.now.machine.now.state) result }
 {
-    let set = m.set();
+    let set = drawn.machine.set();
     let f = frame_of(&set.topo);
     let size = size_text(f);
-    let text = title_text(m, o);
+    let text = title_text(drawn);
     let title = title(text.as_bytes());
     let lines = [svg_start(), size.as_bytes(), title.as_bytes()];
     put_each(out, &lines)
@@ -99,20 +94,14 @@ fn set_text(set: &Set) -> Line
 
 // Puts the page and the head lines.
 #[tactic(auto, unfolding(crate::specs::Opening::head, crate::specs::Forms::text))]
-fn put_head<K: Sink>(
-    m: &Machine<'_>,
-    o: Outcome,
-    sentence: &Line,
-    out: &mut K,
-) -> Result<(), Failed>
-    requires outcome { told (waits_for m.now.set m.now.state) o ≡ outcome m.now.set m.now.state }
-    requires sentence { sentence.now ≡ say m.now.set m.now.state (outcome m.now.set m.now.state) }
-    ensures { Writes (K.sight out.old) (K.sight out.new) (head m.now.set m.now.state) result }
+fn put_head<K: Sink>(drawn: &Drawn<'_, '_>, sentence: &Line, out: &mut K) -> Result<(), Failed>
+    requires { sentence.now ≡ say drawn.now.machine.now.set drawn.now.machine.now.state (outcome drawn.now.machine.now.set drawn.now.machine.now.state) }
+    ensures { Writes (K.sight out.old) (K.sight out.new) (head drawn.now.machine.now.set drawn.now.machine.now.state) result }
 {
-    let set = m.set();
+    let set = drawn.machine.set();
     let f = frame_of(&set.topo);
     let page = rect(b"page", f.left, f.top, f.width(), f.height(), 0);
-    let word = text(b"head", f.left + 24, f.top + 42, outcome_word(m, o));
+    let word = text(b"head", f.left + 24, f.top + 42, outcome_word(drawn));
     let before = text_head(b"say", f.left + 24, f.top + 64);
     let grid = text(b"soft", f.left + 24, f.top + 83, set_text(set).as_bytes());
     let lines = [
@@ -128,20 +117,13 @@ fn put_head<K: Sink>(
 
 /// Puts all that stands before the grid.
 #[tactic(auto, unfolding(crate::specs::Opening::front), using(raw_io::proofs::Chains::chained))]
-pub(crate) fn put_front<K: Sink>(
-    m: &Machine<'_>,
-    o: Outcome,
-    t: Told,
-    out: &mut K,
-) -> Result<(), Failed>
-    requires fits { AnswerFits m.now.set m.now.state o }
-    requires outcome { told (waits_for m.now.set m.now.state) o ≡ outcome m.now.set m.now.state }
-    requires told { AreTold m.now.set m.now.state t }
-    ensures { Writes (K.sight out.old) (K.sight out.new) (front m.now.set m.now.state) result }
+pub(crate) fn put_front<K: Sink>(drawn: &Drawn<'_, '_>, out: &mut K) -> Result<(), Failed>
+    requires { AnswerFits drawn.now.machine.now.set drawn.now.machine.now.state drawn.now.answer }
+    ensures { Writes (K.sight out.old) (K.sight out.new) (front drawn.now.machine.now.set drawn.now.machine.now.state) result }
 {
-    let sentence = say(m, o);
-    put_opening(m, o, out)?;
-    put_description(m, &sentence, t, out)?;
+    let sentence = say(drawn);
+    put_opening(drawn, out)?;
+    put_description(drawn, &sentence, out)?;
     put_style(out)?;
-    put_head(m, o, &sentence, out)
+    put_head(drawn, &sentence, out)
 }

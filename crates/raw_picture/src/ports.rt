@@ -3,11 +3,11 @@ ghost use Rattle.std.specs.Prelude.{◌≡◌, ◌+◌, ◌*◌, ◌<◌, ◌≤
 ghost use Rattle.raw_io.specs.Writing.{Writes};
 ghost use Rattle.raw_grid.specs.Topology.{tile_count, proc_count};
 ghost use Rattle.raw_picture.specs.Places.{corner_at, port_lane};
-ghost use Rattle.raw_picture.specs.Told.{AreTold};
 ghost use Rattle.raw_picture.specs.Boxes.{port_corner, done_word, most_at, port_title, port_text, port_texts, port_box_with, port_box};
 
 use crate::boxes::box_class;
 use crate::course::{Point, corner_at};
+use crate::drawn::Drawn;
 use crate::forms::{CLOSE, OPEN, labelled, push_labelled, rect, text, title};
 use crate::ground::port_lane;
 use crate::layout::{
@@ -15,11 +15,10 @@ use crate::layout::{
     WEST_PORT,
 };
 use crate::names::{mark, progress_of, push_name};
-use crate::told::{Told, is_told};
+use crate::told::is_told;
 use raw_grid::{PortKind, PortPlace, ProcId, Side, Topo};
 use raw_io::{Failed, Sink, put_each};
 use raw_model::Set;
-use raw_serial::Machine;
 use raw_state_text::Line;
 
 // Where the box of the port at this place stands.
@@ -170,17 +169,16 @@ fn put_port_box_with<K: Sink>(
 /// Puts the box of the port at this place, by its number in the list of ports.
 #[tactic(auto, unfolding(crate::specs::Boxes::port_box))]
 pub(crate) fn put_port_box<K: Sink>(
-    m: &Machine<'_>,
-    told: Told,
+    drawn: &Drawn<'_, '_>,
     i: u32,
     place: PortPlace,
     out: &mut K,
 ) -> Result<(), Failed>
-    requires told { AreTold m.now.set m.now.state told }
-    requires there { i < length m.now.set.topo.places }
+    requires { i < length drawn.now.machine.now.set.topo.places }
     ensures { Writes (K.sight out.old) (K.sight out.new)
-        (port_box m.now.set m.now.state i place) result }
+        (port_box drawn.now.machine.now.set drawn.now.machine.now.state i place) result }
 {
+    let m = drawn.machine;
     let set = m.set();
     // Ports are the last processors.
     let p = ProcId(set.topo.procs() - set.topo.ports() + i);
@@ -191,7 +189,7 @@ pub(crate) fn put_port_box<K: Sink>(
     };
     let shown = Shown {
         mark: mark.as_bytes(),
-        on: is_told(m, told, p),
+        on: is_told(drawn, p),
         done,
     };
     put_port_box_with(&set.topo, p, place, shown, out)

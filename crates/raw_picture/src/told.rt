@@ -12,6 +12,7 @@ ghost use Rattle.raw_picture.specs.Places.{IsCourse};
 ghost use Rattle.raw_picture.specs.Told.{say, is_told, segment, lead, wait_piece, all_waits, description, path_start, path, AnswerFits, AreTold};
 
 use crate::course::{Course, along, wait_course};
+use crate::drawn::Drawn;
 use crate::forms::push_labelled;
 use crate::names::{after_first_word, mark, push_name, wait_text};
 use raw_grid::{ProcId, Topo, WireId};
@@ -50,12 +51,11 @@ pub(crate) enum Telling {
 }
 
 /// The word of the outcome of a machine.
-pub(crate) fn outcome_word(m: &Machine<'_>, o: Outcome) -> &'static [u8]
-    requires { told (waits_for m.now.set m.now.state) o ≡ outcome m.now.set m.now.state }
-    ensures text { result.now ≡ outcome_word (outcome m.now.set m.now.state) }
+pub(crate) fn outcome_word(drawn: &Drawn<'_, '_>) -> &'static [u8]
+    ensures text { result.now ≡ outcome_word (outcome drawn.now.machine.now.set drawn.now.machine.now.state) }
     ensures short { length result.now ≤ 8 }
 {
-    o.word()
+    drawn.answer.word()
 }
 
 // The sentence of a state in which all is done.
@@ -125,12 +125,12 @@ fn say_stuck(m: &Machine<'_>, p: ProcId) -> Line
 }
 
 /// The sentence of an outcome.
-pub(crate) fn say(m: &Machine<'_>, o: Outcome) -> Line
-    requires fits { AnswerFits m.now.set m.now.state o }
-    requires outcome { told (waits_for m.now.set m.now.state) o ≡ outcome m.now.set m.now.state }
-    ensures { result ≡ say m.now.set m.now.state (outcome m.now.set m.now.state) }
+pub(crate) fn say(drawn: &Drawn<'_, '_>) -> Line
+    requires { AnswerFits drawn.now.machine.now.set drawn.now.machine.now.state drawn.now.answer }
+    ensures { result ≡ say drawn.now.machine.now.set drawn.now.machine.now.state (outcome drawn.now.machine.now.set drawn.now.machine.now.state) }
 {
-    match o {
+    let m = drawn.machine;
+    match drawn.answer {
         Outcome::Done => say_done(m),
         Outcome::Deadlock { length, .. } => say_cycle(m, length),
         Outcome::Trapped { p } => say_trapped(m, p),
@@ -167,12 +167,12 @@ pub(crate) fn tell(m: &Machine<'_>, o: Outcome) -> Told
 }
 
 /// Whether a processor is told.
-pub(crate) fn is_told(m: &Machine<'_>, told: Told, p: ProcId) -> bool
-    requires { AreTold m.now.set m.now.state told }
-    ensures { result ≡ is_told m.now.set m.now.state p.0 }
+pub(crate) fn is_told(drawn: &Drawn<'_, '_>, p: ProcId) -> bool
+    ensures { result ≡ is_told drawn.now.machine.now.set drawn.now.machine.now.state p.0 }
 {
-    let mut next = told.first;
-    for _step in 0..told.count {
+    let m = drawn.machine;
+    let mut next = drawn.listed.first;
+    for _step in 0..drawn.listed.count {
         if next.0 == p.0 {
             return true;
         }
@@ -233,19 +233,14 @@ fn wait_piece(telling: Telling, m: &Machine<'_>, first: bool, p: ProcId, wire: W
 }
 
 // Puts the waits that are told.
-fn put_waits<K: Sink>(
-    m: &Machine<'_>,
-    told: Told,
-    telling: Telling,
-    out: &mut K,
-) -> Result<(), Failed>
-    requires { AreTold m.now.set m.now.state told }
+fn put_waits<K: Sink>(drawn: &Drawn<'_, '_>, telling: Telling, out: &mut K) -> Result<(), Failed>
     ensures { Writes (K.sight out.old) (K.sight out.new)
-        (all_waits telling m.now.set m.now.state) result }
+        (all_waits telling drawn.now.machine.now.set drawn.now.machine.now.state) result }
 {
-    let mut p = told.first;
+    let m = drawn.machine;
+    let mut p = drawn.listed.first;
     let mut first = true;
-    for _step in 0..told.count {
+    for _step in 0..drawn.listed.count {
         match m.first_wait(p) {
             // It waits for none, and nothing is told of it.
             None => return Ok(()),
@@ -262,18 +257,16 @@ fn put_waits<K: Sink>(
 /// Puts the description: the sentence of the outcome, and the waits that are told, in words.
 #[tactic(auto, unfolding(crate::specs::Told::description), using(raw_io::proofs::Chains::chained))]
 pub(crate) fn put_description<K: Sink>(
-    m: &Machine<'_>,
+    drawn: &Drawn<'_, '_>,
     sentence: &Line,
-    told: Told,
     out: &mut K,
 ) -> Result<(), Failed>
-    requires sentence { sentence.now ≡ say m.now.set m.now.state (outcome m.now.set m.now.state) }
-    requires told { AreTold m.now.set m.now.state told }
+    requires { sentence.now ≡ say drawn.now.machine.now.set drawn.now.machine.now.state (outcome drawn.now.machine.now.set drawn.now.machine.now.state) }
     ensures { Writes (K.sight out.old) (K.sight out.new)
-        (description m.now.set m.now.state) result }
+        (description drawn.now.machine.now.set drawn.now.machine.now.state) result }
 {
     put_each(out, &[b"<desc>", sentence.as_bytes()])?;
-    put_waits(m, told, Telling::Sentences, out)?;
+    put_waits(drawn, Telling::Sentences, out)?;
     put_each(out, &[b".</desc>\n"])
 }
 
@@ -287,30 +280,23 @@ fn path_start() -> &'static [u8]
 
 // Puts the path of the waits that are told, with this end.
 #[tactic(auto, using(raw_io::proofs::Chains::chained))]
-fn put_path_with<K: Sink>(
-    m: &Machine<'_>,
-    told: Told,
-    end: &[u8],
-    out: &mut K,
-) -> Result<(), Failed>
-    requires { AreTold m.now.set m.now.state told }
+fn put_path_with<K: Sink>(drawn: &Drawn<'_, '_>, end: &[u8], out: &mut K) -> Result<(), Failed>
     ensures { Writes (K.sight out.old) (K.sight out.new)
-        (path_start ++ all_waits Telling.Lines m.now.set m.now.state ++ end.now) result }
+        (path_start ++ all_waits Telling.Lines drawn.now.machine.now.set drawn.now.machine.now.state ++ end.now) result }
 {
     put_each(out, &[path_start()])?;
-    put_waits(m, told, Telling::Lines, out)?;
+    put_waits(drawn, Telling::Lines, out)?;
     put_each(out, &[end])
 }
 
 /// Puts the path of the waits that are told: that of a cycle is closed.
 #[tactic(auto, unfolding(crate::specs::Told::path))]
-pub(crate) fn put_path<K: Sink>(m: &Machine<'_>, told: Told, out: &mut K) -> Result<(), Failed>
-    requires { AreTold m.now.set m.now.state told }
-    ensures { Writes (K.sight out.old) (K.sight out.new) (path m.now.set m.now.state) result }
+pub(crate) fn put_path<K: Sink>(drawn: &Drawn<'_, '_>, out: &mut K) -> Result<(), Failed>
+    ensures { Writes (K.sight out.old) (K.sight out.new) (path drawn.now.machine.now.set drawn.now.machine.now.state) result }
 {
-    match told.shape {
+    match drawn.listed.shape {
         Shape::Nothing => Ok(()),
-        Shape::Chain => put_path_with(m, told, b"\"/>\n", out),
-        Shape::Cycle => put_path_with(m, told, b"Z\"/>\n", out),
+        Shape::Chain => put_path_with(drawn, b"\"/>\n", out),
+        Shape::Cycle => put_path_with(drawn, b"Z\"/>\n", out),
     }
 }

@@ -4,16 +4,15 @@ ghost use Rattle.raw_io.specs.Writing.{Writes};
 ghost use Rattle.raw_grid.specs.Topology.{proc_count};
 ghost use Rattle.raw_grid.specs.Wires.{wires_of};
 ghost use Rattle.raw_picture.specs.Places.{IsCourse};
-ghost use Rattle.raw_picture.specs.Told.{AreTold};
 ghost use Rattle.raw_picture.specs.Flows.{wire_tag, wait_arrow, wait_group, wait_drawn};
 
 use crate::course::{Course, wait_course};
+use crate::drawn::Drawn;
 use crate::forms::{CLOSE, OPEN, arrow, labelled, tag_box, tag_text, title};
 use crate::names::wait_text;
-use crate::told::{Told, is_told};
+use crate::told::is_told;
 use raw_grid::{ProcId, Topo, WireId};
 use raw_io::{Failed, Sink, put_each};
-use raw_serial::Machine;
 
 // Puts the arrow of a wait: that of one which is told has a tag.
 #[tactic(auto, unfolding(crate::specs::Flows::wait_arrow, crate::specs::Flows::wire_tag))]
@@ -59,22 +58,16 @@ fn put_wait_group<K: Sink>(
 
 /// Puts what is drawn of a processor's wait: nothing where it waits for none.
 #[tactic(auto, unfolding(crate::specs::Flows::wait_drawn))]
-pub(crate) fn put_wait<K: Sink>(
-    m: &Machine<'_>,
-    told: Told,
-    p: ProcId,
-    out: &mut K,
-) -> Result<(), Failed>
-    requires told { AreTold m.now.set m.now.state told }
-    requires there { p.0 < proc_count m.now.set.topo }
+pub(crate) fn put_wait<K: Sink>(drawn: &Drawn<'_, '_>, p: ProcId, out: &mut K) -> Result<(), Failed>
+    requires { p.0 < proc_count drawn.now.machine.now.set.topo }
     ensures { Writes (K.sight out.old) (K.sight out.new)
-        (wait_drawn m.now.set m.now.state p.0) result }
+        (wait_drawn drawn.now.machine.now.set drawn.now.machine.now.state p.0) result }
 {
-    match m.first_wait(p) {
+    match drawn.machine.first_wait(p) {
         None => Ok(()),
         Some(wait) => {
-            let on = is_told(m, told, p);
-            put_wait_group(&m.set().topo, p, wait.wire, on, out)
+            let on = is_told(drawn, p);
+            put_wait_group(&drawn.machine.set().topo, p, wait.wire, on, out)
         }
     }
 }

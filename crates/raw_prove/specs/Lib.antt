@@ -2,3 +2,5 @@ pub mod Units
 pub mod Turns
 pub mod Runs
 pub mod Opened
+pub mod RowRuns
+pub mod Standing

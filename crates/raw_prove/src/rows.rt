@@ -1,11 +1,11 @@
 //! Streams against sets: the verdict of a claim of rows.
-ghost use Rattle.std.specs.Prelude.{◌≡◌, ℕ, ◌+◌, ◌*◌, ◌<◌, ◌≤◌, ◌^◌, None, IfOk};
+ghost use Rattle.std.specs.Prelude.{◌≡◌, ℕ, ◌+◌, ◌*◌, ◌<◌, ◌^◌, None, IfOk};
 ghost use Rattle.raw_grid.specs.Topology.{tile_count};
-ghost use Rattle.raw_model.specs.declared.limits.TheConstants.{MAX_ALL_WORDS};
 ghost use Rattle.raw_model.specs.Program.{IsSet};
-ghost use Rattle.raw_stream.specs.Unrolled.{word_count, unrolled};
+ghost use Rattle.raw_stream.specs.Unrolled.{unrolled};
 ghost use Rattle.raw_term.specs.Claims.{Meets};
-ghost use Rattle.raw_row_terms.specs.RowClaims.{has_words, misfed, got_at, misgot, got_in, IsOfRows, IsOfRowCounts, IsOfRowsAtRest, IsRowsVerdictOfRun, IsRowsVerdict, HasRows, HasPortsOf, AreSinksOf};
+ghost use Rattle.raw_row_terms.specs.RowClaims.{has_words, misfed, got_at, misgot, got_in, IsOfRows, IsOfRowCounts, IsOfRowsAtRest, IsRowsVerdictOfRun, IsRowsVerdict, HasRows, IsClaimOf};
+ghost use Rattle.raw_prove.specs.RowRuns.{FitsOneRun};
 ghost use Rattle.raw_prove.specs.Units.{state_of};
 ghost use Rattle.raw_prove.specs.Runs.{RestsAt, IsOutcomeOf};
 
@@ -97,10 +97,7 @@ fn compare_words(
     stream: &StreamFlow,
     order: &[u32],
 ) -> Result<Verdict, AllocError>
-    requires rows { HasRows stream.now }
-    requires few { word_count stream.now ≤ MAX_ALL_WORDS }
-    requires ports { HasPortsOf set.now stream.now }
-    requires sinks { AreSinksOf stream.now order.now }
+    requires fits { FitsOneRun set.now stream.now order.now }
     requires counts { misgot set.now stream.now (state_of machine.old).state ≡ None }
     ensures { IfOk result (IsOfRows set.now stream.now order.now (state_of machine.old)) }
 {
@@ -120,11 +117,7 @@ fn compare(
     stream: &StreamFlow,
     order: &[u32],
 ) -> Result<Verdict, AllocError>
-    requires valid { IsSet set.now }
-    requires rows { HasRows stream.now }
-    requires few { word_count stream.now ≤ MAX_ALL_WORDS }
-    requires ports { HasPortsOf set.now stream.now }
-    requires sinks { AreSinksOf stream.now order.now }
+    requires { FitsOneRun set.now stream.now order.now }
     ensures { IfOk result (IsOfRowCounts (misgot set.now stream.now (state_of machine.old).state)
         set.now stream.now order.now (state_of machine.old)) }
 {
@@ -146,13 +139,9 @@ fn rested(
     order: &[u32],
     how: Outcome,
 ) -> Result<Verdict, AllocError>
-    requires valid { IsSet set.now }
+    requires fits { FitsOneRun set.now stream.now order.now }
     requires rests { RestsAt set.now machine.old }
     requires outcome { IsOutcomeOf set.now how }
-    requires rows { HasRows stream.now }
-    requires few { word_count stream.now ≤ MAX_ALL_WORDS }
-    requires ports { HasPortsOf set.now stream.now }
-    requires sinks { AreSinksOf stream.now order.now }
     ensures { IfOk result (IsOfRowsAtRest set.now stream.now order.now (state_of machine.old)) }
 {
     law_runs();
@@ -171,8 +160,7 @@ fn difference(
     order: &[u32],
     verdict: Verdict,
 ) -> Result<Option<Difference>, AllocError>
-    requires rows { HasRows stream.now }
-    requires few { word_count stream.now ≤ MAX_ALL_WORDS }
+    requires { FitsOneRun set.now stream.now order.now }
 {
     if !matches!(verdict, Verdict::Differs(_)) {
         return Ok(None);
@@ -207,12 +195,8 @@ fn run_rows(
     order: &[u32],
     how: Outcome,
 ) -> Result<Proof, AllocError>
-    requires valid { IsSet set.now }
+    requires fits { FitsOneRun set.now stream.now order.now }
     requires outcome { IsOutcomeOf set.now how }
-    requires rows { HasRows stream.now }
-    requires few { word_count stream.now ≤ MAX_ALL_WORDS }
-    requires ports { HasPortsOf set.now stream.now }
-    requires sinks { AreSinksOf stream.now order.now }
     ensures { IfOk result (λ proof. IsRowsVerdictOfRun set.now stream.now order.now proof.verdict) }
 {
     let mut machine = match open(alloc, set) {
@@ -243,10 +227,8 @@ fn judge(
     how: Outcome,
 ) -> Result<Proof, AllocError>
     requires valid { IsSet set.now }
+    requires claim { IsClaimOf set.now stream.now order.now }
     requires outcome { IsOutcomeOf set.now how }
-    requires rows { HasRows stream.now }
-    requires ports { HasPortsOf set.now stream.now }
-    requires sinks { AreSinksOf stream.now order.now }
     ensures { IfOk result (λ proof. IsRowsVerdict set.now stream.now order.now proof.verdict) }
 {
     match misfed(set, stream) {
@@ -275,10 +257,8 @@ pub fn prove_rows(
     order: &[u32],
     how: Outcome,
 ) -> Result<Proof, AllocError>
+    requires claim { IsClaimOf set.now stream.now order.now }
     requires outcome { IsOutcomeOf set.now how }
-    requires rows { HasRows stream.now }
-    requires ports { HasPortsOf set.now stream.now }
-    requires sinks { AreSinksOf stream.now order.now }
     ensures verdict { IfOk result (λ proof. IsRowsVerdict set.now stream.now order.now proof.verdict) }
     ensures meets { IfOk result (λ proof. (n : ℕ) → proof.verdict ≡ Verdict.Proved n → Meets set.now (unrolled stream.now)) }
 {

@@ -1,8 +1,6 @@
 //! The turns of processors, by their kinds.
 ghost use Rattle.std.specs.Prelude.{◌≡◌, ℕ, ◌+◌, ◌*◌, ◌^◌, ◌<◌, ◌≤◌, ◌||◌, nat_le, length, slice_index, Some, List, IfOk, IsSomeAnd, OnErr, Err, false, unwrap_or};
 ghost use Rattle.raw_grid.specs.Topology.{tile_count};
-ghost use Rattle.raw_grid.specs.Wires.{wires_of};
-ghost use Rattle.raw_model.specs.Program.{IsSet};
 ghost use Rattle.raw_tile_isa.specs.Instruction.{uses, is_rs, reads_rt};
 ghost use Rattle.raw_switch_isa.specs.Ends.{move_source};
 ghost use Rattle.raw_model.specs.TileTable.{next_instruction};
@@ -10,13 +8,13 @@ ghost use Rattle.raw_model.specs.SwitchTable.{next_instruction as next_switch_in
 ghost use Rattle.raw_model.specs.Local.{Tile, Switch, Source, Sink};
 ghost use Rattle.raw_model.specs.Machine.{is_ended, is_stopped, tile_code, switch_code, first_operand, second_operand};
 ghost use Rattle.raw_tile.specs.Given.{IsGivenFor, values_of};
-ghost use Rattle.raw_processor.specs.Ends.{AreEndsOf};
+ghost use Rattle.raw_prove.specs.Standing.{EndsStand};
 ghost use Rattle.raw_flow.specs.declared.node.Node.{Node};
 ghost use Rattle.raw_term.specs.Terms.{Overflows};
 ghost use Rattle.raw_term.specs.TermRows.{term_effect, term_switch};
 ghost use Rattle.raw_term.specs.TermMachine.{numbered};
 ghost use Rattle.raw_term.specs.Switches.{IsControl};
-ghost use Rattle.raw_term.specs.Tiles.{IsFired};
+ghost use Rattle.raw_term.specs.Tiles.{IsFired, MayStep};
 ghost use Rattle.raw_prove.specs.Units.{local_of, IsTile, IsSwitch, IsSource, IsSink, IsUnit};
 ghost use Rattle.raw_prove.specs.Turns.{IsTurn, operand_by};
 
@@ -48,10 +46,8 @@ pub fn turn_tile(
     wires: &mut Wires,
     table: &mut TermTable,
 ) -> Result<Turn, AllocError>
-    requires valid { IsSet set.now }
-    requires ends { AreEndsOf set.now.topo p.0 ends.now }
+    requires stands { EndsStand set.now p.0 ends.now wires.old }
     requires unit { IsTile set.now p.0 unit.old }
-    requires wires { length wires.old ≡ length (wires_of set.now.topo) }
     ensures turn { IfOk result (λ turn.
         IsTurn (numbered set.now) p.0 table.old (Tile unit.old.tile) wires.old turn table.new (Tile unit.new.tile) wires.new) }
     ensures kept { IsTile set.now p.0 unit.new }
@@ -71,10 +67,8 @@ fn step_tile(
     wires: &mut Wires,
     table: &mut TermTable,
 ) -> Result<Turn, AllocError>
-    requires valid { IsSet set.now }
-    requires ends { AreEndsOf set.now.topo p.0 ends.now }
+    requires stands { EndsStand set.now p.0 ends.now wires.old }
     requires unit { IsTile set.now p.0 unit.old }
-    requires wires { length wires.old ≡ length (wires_of set.now.topo) }
     requires going { is_stopped set.now p.0 (Tile unit.old.tile) ≡ false }
     ensures turn { IfOk result (λ turn.
         IsTurn (numbered set.now) p.0 table.old (Tile unit.old.tile) wires.old turn table.new (Tile unit.new.tile) wires.new) }
@@ -186,10 +180,8 @@ fn fire_tile(
     table: &mut TermTable,
     given: TileGiven,
 ) -> Result<Option<TileOut>, TermRefusal>
-    requires going { tile.old.mark ≡ Mark.Going }
+    requires may { MayStep tile.old }
     requires inside { tile.old.pc < length program.now }
-    requires count { tile.old.count < MAX_STEPS }
-    requires memory { length tile.old.memory ≡ MEMORY_WORDS }
     requires given { IsGivenFor (next_instruction program.now tile.old) given }
     ensures fired { IfOk result (λ out. IsFired table.old tile.old
         (term_effect table.old (next_instruction program.now tile.old) (length program.now) tile.old
@@ -217,10 +209,8 @@ pub fn turn_switch(
     wires: &mut Wires,
     table: &mut TermTable,
 ) -> Result<Turn, AllocError>
-    requires valid { IsSet set.now }
-    requires ends { AreEndsOf set.now.topo p.0 ends.now }
+    requires stands { EndsStand set.now p.0 ends.now wires.old }
     requires unit { IsSwitch set.now p.0 unit.old }
-    requires wires { length wires.old ≡ length (wires_of set.now.topo) }
     ensures turn { IfOk result (λ turn.
         IsTurn (numbered set.now) p.0 table.old (Switch unit.old.state) wires.old turn table.new (Switch unit.new.state) wires.new) }
     ensures kept { IsSwitch set.now p.0 unit.new }
@@ -240,10 +230,8 @@ fn step_switch(
     wires: &mut Wires,
     table: &mut TermTable,
 ) -> Result<Turn, AllocError>
-    requires valid { IsSet set.now }
-    requires ends { AreEndsOf set.now.topo p.0 ends.now }
+    requires stands { EndsStand set.now p.0 ends.now wires.old }
     requires unit { IsSwitch set.now p.0 unit.old }
-    requires wires { length wires.old ≡ length (wires_of set.now.topo) }
     requires going { is_stopped set.now p.0 (Switch unit.old.state) ≡ false }
     ensures turn { IfOk result (λ turn.
         IsTurn (numbered set.now) p.0 table.old (Switch unit.old.state) wires.old turn table.new (Switch unit.new.state) wires.new) }
@@ -327,10 +315,8 @@ pub(crate) fn turn_source(
     unit: &mut SourceUnit,
     wires: &mut Wires,
 ) -> Turn
-    requires valid { IsSet set.now }
-    requires ends { AreEndsOf set.now.topo p.0 ends.now }
+    requires stands { EndsStand set.now p.0 ends.now wires.old }
     requires unit { IsSource set.now p.0 unit.old }
-    requires wires { length wires.old ≡ length (wires_of set.now.topo) }
     ensures turn { (nodes : List Node) →
         IsTurn (numbered set.now) p.0 nodes (Source unit.old.port.local) wires.old result nodes (Source unit.new.port.local) wires.new }
     ensures kept { IsSource set.now p.0 unit.new }
@@ -360,10 +346,8 @@ pub(crate) fn turn_sink(
     port: &mut PortState,
     wires: &mut Wires,
 ) -> Turn
-    requires valid { IsSet set.now }
-    requires ends { AreEndsOf set.now.topo p.0 ends.now }
+    requires stands { EndsStand set.now p.0 ends.now wires.old }
     requires unit { IsSink set.now p.0 port.old }
-    requires wires { length wires.old ≡ length (wires_of set.now.topo) }
     ensures turn { (nodes : List Node) →
         IsTurn (numbered set.now) p.0 nodes (Sink port.old.local) wires.old result nodes (Sink port.new.local) wires.new }
     ensures kept { IsSink set.now p.0 port.new }
@@ -383,10 +367,8 @@ pub(crate) fn turn_unit(
     wires: &mut Wires,
     table: &mut TermTable,
 ) -> Result<Turn, AllocError>
-    requires valid { IsSet set.now }
-    requires ends { AreEndsOf set.now.topo p.0 ends.now }
+    requires stands { EndsStand set.now p.0 ends.now wires.old }
     requires unit { IsUnit set.now p.0 unit.old }
-    requires wires { length wires.old ≡ length (wires_of set.now.topo) }
     ensures turn { IfOk result (λ turn.
         IsTurn (numbered set.now) p.0 table.old (local_of unit.old) wires.old turn table.new (local_of unit.new) wires.new) }
     ensures kept { IsUnit set.now p.0 unit.new }

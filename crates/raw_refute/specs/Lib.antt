@@ -3,3 +3,4 @@ pub mod Judged
 pub mod Answers
 pub mod RowJudged
 pub mod RowAnswers
+pub mod RowStanding

@@ -1,10 +1,10 @@
 //! The answer to a claim of rows: by the set's own words, by terms, and by words that are looked for.
-ghost use Rattle.std.specs.Prelude.{◌≡◌, ◌<◌, ◌^◌, None, length, sum_by, IfOk, IfSome};
-ghost use Rattle.raw_model.specs.Program.{IsSet};
+ghost use Rattle.std.specs.Prelude.{◌≡◌, ◌<◌, ◌^◌, length, sum_by, IfOk, IfSome};
 ghost use Rattle.raw_model.specs.Bounds.{all_words};
 ghost use Rattle.raw_stream.specs.Kept.{due_count};
-ghost use Rattle.raw_row_terms.specs.RowClaims.{misfed, IsClaimOf};
-ghost use Rattle.raw_refute.specs.RowAnswers.{AreRowsRight, IsProofByRows, IsRowsAnswer, IsRowsTried};
+ghost use Rattle.raw_row_terms.specs.RowClaims.{IsClaimOf};
+ghost use Rattle.raw_refute.specs.RowAnswers.{IsProofByRows, IsRowsAnswer, IsRowsTried};
+ghost use Rattle.raw_refute.specs.RowStanding.{RowsStand, OwnRowsStand};
 
 use crate::answering::{RUN_STEPS, Tried, by_terms, next_list, own_words};
 use crate::feeding::feed;
@@ -30,9 +30,7 @@ fn refuted_by(
     own: &[u32],
     words: Vec<u32>,
 ) -> Result<Tried, AllocError>
-    requires valid { IsSet set.old }
-    requires claim { IsClaimOf set.old stream.now order.now }
-    requires right { AreRowsRight set.old stream.now order.now own.now }
+    requires stands { OwnRowsStand set.old stream.now order.now own.now }
     requires each { length words.items ≡ all_words set.old }
     ensures { IfOk result (λ tried. IsRowsTried set.old stream.now order.now set.new tried.answer) }
 {
@@ -61,9 +59,7 @@ fn by_runs(
     order: &[u32],
     own: &[u32],
 ) -> Result<Option<Answer>, AllocError>
-    requires valid { IsSet set.old }
-    requires claim { IsClaimOf set.old stream.now order.now }
-    requires right { AreRowsRight set.old stream.now order.now own.now }
+    requires { OwnRowsStand set.old stream.now order.now own.now }
     ensures { IfOk result (λ answer. IsRowsTried set.old stream.now order.now set.new answer) }
 {
     let mut lists = Lists::new();
@@ -92,9 +88,7 @@ fn by_difference(
     difference: &Difference,
     steps: u64,
 ) -> Result<Option<Answer>, AllocError>
-    requires valid { IsSet set.old }
-    requires claim { IsClaimOf set.old stream.now order.now }
-    requires right { AreRowsRight set.old stream.now order.now own.now }
+    requires { OwnRowsStand set.old stream.now order.now own.now }
     ensures { IfOk result (λ answer. IsRowsTried set.old stream.now order.now set.new answer) }
 {
     let found = by_terms(alloc, difference, own.len(), steps)?;
@@ -114,9 +108,7 @@ fn looked_for(
     proof: Proof,
     steps: u64,
 ) -> Result<Option<Answer>, AllocError>
-    requires valid { IsSet set.old }
-    requires claim { IsClaimOf set.old stream.now order.now }
-    requires right { AreRowsRight set.old stream.now order.now own.now }
+    requires { OwnRowsStand set.old stream.now order.now own.now }
     ensures { IfOk result (λ answer. IsRowsTried set.old stream.now order.now set.new answer) }
 {
     match proof.difference {
@@ -134,9 +126,7 @@ fn not_by_own(
     own: &[u32],
     steps: u64,
 ) -> Result<Answer, AllocError>
-    requires valid { IsSet set.old }
-    requires claim { IsClaimOf set.old stream.now order.now }
-    requires right { AreRowsRight set.old stream.now order.now own.now }
+    requires { OwnRowsStand set.old stream.now order.now own.now }
     ensures { IfOk result (λ answer. IsRowsAnswer set.old stream.now order.now set.new answer) }
 {
     law_rows_right();
@@ -161,9 +151,7 @@ fn by_all_rows(
     stream: &StreamFlow,
     order: &[u32],
 ) -> Result<Answer, AllocError>
-    requires valid { IsSet set.old }
-    requires claim { IsClaimOf set.old stream.now order.now }
-    requires counts { misfed set.old stream.now ≡ None }
+    requires { RowsStand set.old stream.now order.now }
     ensures { IfOk result (λ answer. IsRowsAnswer set.old stream.now order.now set.new answer) }
 {
     let own = own_words(alloc, set)?;
@@ -193,9 +181,7 @@ fn by_rows(
     stream: &StreamFlow,
     order: &[u32],
 ) -> Result<Option<u64>, AllocError>
-    requires valid { IsSet set.old }
-    requires claim { IsClaimOf set.old stream.now order.now }
-    requires counts { misfed set.old stream.now ≡ None }
+    requires { RowsStand set.old stream.now order.now }
     ensures proof { IfOk result (λ found. IfSome found (λ outs. IsProofByRows set.old stream.now order.now set.new outs)) }
     ensures stays { IfOk result (λ found. set.new ≡ set.old) }
 {
@@ -216,9 +202,7 @@ fn answer_fed(
     stream: &StreamFlow,
     order: &[u32],
 ) -> Result<Answer, AllocError>
-    requires valid { IsSet set.old }
-    requires claim { IsClaimOf set.old stream.now order.now }
-    requires counts { misfed set.old stream.now ≡ None }
+    requires { RowsStand set.old stream.now order.now }
     ensures { IfOk result (λ answer. IsRowsAnswer set.old stream.now order.now set.new answer) }
 {
     match by_rows(alloc, set, stream, order)? {

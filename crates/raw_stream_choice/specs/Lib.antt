@@ -1,4 +1,5 @@
 pub mod StreamSets
 pub mod PortNumbers
+pub mod Standing
 pub mod Choice
 pub mod Endless

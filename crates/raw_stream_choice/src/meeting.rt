@@ -1,12 +1,12 @@
 //! Whether a set is proved to meet a stream.
-ghost use Rattle.std.specs.Prelude.{◌≡◌, ◌<◌, ◌^◌, true, length, IfOk, IfSome};
+ghost use Rattle.std.specs.Prelude.{◌≡◌, true, length, IfOk, IfSome};
 ghost use Rattle.std.specs.List.{range_with_len};
 ghost use Rattle.raw_model.specs.Program.{IsSet};
 ghost use Rattle.raw_stream.specs.Unrolled.{unrolled};
 ghost use Rattle.raw_stream.specs.Kept.{IsStream};
 ghost use Rattle.raw_term.specs.Claims.{Meets};
 ghost use Rattle.raw_stream_choice.specs.StreamSets.{stream_topo};
-ghost use Rattle.raw_stream_choice.specs.PortNumbers.{numbered};
+ghost use Rattle.raw_stream_choice.specs.Standing.{TwinStands};
 
 use crate::numbered::{numbered, sinks_of};
 use crate::ports::has_few_outs;
@@ -35,11 +35,7 @@ fn is_proved_by_rows(
     stream: &StreamFlow,
     twin: &StreamFlow,
 ) -> Result<bool, AllocError>
-    requires valid { IsSet set.old }
-    requires stream { IsStream stream.now }
-    requires few { length stream.now.outs < 2 ^ 32 }
-    requires grid { set.old.topo ≡ stream_topo stream.now }
-    requires twin { twin.now ≡ numbered stream.now }
+    requires { TwinStands set.old stream.now twin.now }
     ensures meets { IfOk result (λ is. is ≡ true → Meets set.old (unrolled stream.now)) }
     ensures stays { IfOk result (λ is. set.new ≡ set.old) }
 {
@@ -57,15 +53,10 @@ fn is_twin_proved(
     twin: &StreamFlow,
     sinks: &[u32],
 ) -> Result<bool, AllocError>
-    requires stream { IsStream stream.now }
-    requires few { length stream.now.outs < 2 ^ 32 }
-    requires grid { set.now.topo ≡ stream_topo stream.now }
-    requires twin { twin.now ≡ numbered stream.now }
+    requires stands { TwinStands set.now stream.now twin.now }
     requires sinks { sinks.now ≡ range_with_len (length stream.now.sources) (length stream.now.sinks) }
     ensures { IfOk result (λ is. is ≡ true → Meets set.now (unrolled stream.now)) }
 {
-    // The set is read so that its rules are known.
-    let _limit = set.limit;
     let how = outcome_of(alloc, set)?;
     match prove_rows(alloc, set, twin, sinks, how)?.verdict {
         Verdict::Proved(_) => Ok(true),
@@ -81,11 +72,7 @@ fn is_either_proved(
     twin: &StreamFlow,
     sinks: &[u32],
 ) -> Result<bool, AllocError>
-    requires valid { IsSet set.old }
-    requires stream { IsStream stream.now }
-    requires few { length stream.now.outs < 2 ^ 32 }
-    requires grid { set.old.topo ≡ stream_topo stream.now }
-    requires twin { twin.now ≡ numbered stream.now }
+    requires stands { TwinStands set.old stream.now twin.now }
     requires sinks { sinks.now ≡ range_with_len (length stream.now.sources) (length stream.now.sinks) }
     ensures meets { IfOk result (λ is. is ≡ true → Meets set.old (unrolled stream.now)) }
     ensures stays { IfOk result (λ is. set.new ≡ set.old) }

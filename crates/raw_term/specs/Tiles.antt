@@ -1,6 +1,7 @@
 -- What a tile with terms is left as by a row.
-use Rattle.std.specs.Prelude.{◌≡◌, ◌<◌, List, Option, Some, None, IfSome, IsSome}
-use Rattle.raw_model.specs.declared.limits.TheConstants.{MEMORY_SIZE}
+use Rattle.std.specs.Prelude.{◌≡◌, ◌<◌, List, Option, Some, None, IfSome, IsSome, length}
+use Rattle.raw_model.specs.declared.limits.TheConstants.{MAX_STEPS, MEMORY_SIZE, MEMORY_WORDS}
+use Rattle.raw_model.specs.declared.marks.Mark.TheVariants.{Going}
 use Rattle.raw_model.specs.Local.{TileLocal}
 use Rattle.raw_tile.specs.declared.fire.TileOut.{TileOut}
 use Rattle.raw_tile.specs.Given.{out_of}
@@ -32,3 +33,9 @@ pub record IsRow (row : TileTerms) (nodes : List Node) (next : TileLocal) (out :
 abbrev pub IsFired : List Node → TileLocal → Option TileTerms → List Node → TileLocal → Option TileOut → Type 0
 IsFired before old None nodes next out = (out ≡ None) × (nodes ≡ before) × (next ≡ old)
 IsFired before old (Some row) nodes next out = IfSome out (λ o. IsRow row nodes next o) × IsSome out
+
+-- a tile that has not ended and may take one more step, with a term for each word of its memory
+pub record MayStep (tile : TileLocal) : Type 0 where
+  pub going : tile.mark ≡ Going
+  pub count : tile.count < MAX_STEPS
+  pub memory : length tile.memory ≡ MEMORY_WORDS

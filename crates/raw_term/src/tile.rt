@@ -3,14 +3,14 @@ ghost use Rattle.std.specs.Prelude.{◌≡◌, ◌/◌, ◌<◌, length, IfOk, I
 ghost use Rattle.raw_tile.specs.Given.{out_of};
 ghost use Rattle.raw_term.specs.Terms.{Overflows};
 ghost use Rattle.raw_term.specs.TermRows.{term_at, loads_term, stored_term, stores_term, cell_of, acted, term_effect};
-ghost use Rattle.raw_term.specs.Tiles.{HasRegister, IsInside, IsRow, IsFired};
+ghost use Rattle.raw_term.specs.Tiles.{HasRegister, IsInside, IsRow, IsFired, MayStep};
 
 use crate::action::{Action, Operand, action_of};
 use crate::refusal::TermRefusal;
 use crate::table::TermTable;
 use raw_flow::Node;
 use raw_model::Mark;
-use raw_model::limits::{MAX_STEPS, MEMORY_SIZE, MEMORY_WORDS};
+use raw_model::limits::{MEMORY_SIZE, MEMORY_WORDS};
 use raw_tile::{TileOut, TileState, access_fault, address_of};
 use raw_tile_isa::TileIns;
 use std::marker::Model;
@@ -61,9 +61,7 @@ impl TermTile {
     ) -> Result<TileOut, TermRefusal>
         requires register { HasRegister action }
         requires inside { IsInside action }
-        requires going { self.old.mark ≡ Mark.Going }
-        requires count { self.old.count < MAX_STEPS }
-        requires memory { length self.old.memory ≡ MEMORY_WORDS }
+        requires may { MayStep self.old }
         ensures row { IfOk result (λ out. IsRow (acted table.old size self.old a b action) table.new self.new out) }
         ensures too_many { result ≡ Err TermRefusal.TooMany →
             Overflows (acted table.old size self.old a b action).nodes }
@@ -115,9 +113,7 @@ impl TermTile {
     // The term of the word at an address goes to a register, or the tile traps.
     fn load(&mut self, size: usize, register: u8, address: u32) -> TileOut
         requires register { register < 32 }
-        requires going { self.old.mark ≡ Mark.Going }
-        requires count { self.old.count < MAX_STEPS }
-        requires memory { length self.old.memory ≡ MEMORY_WORDS }
+        requires may { MayStep self.old }
         ensures next { self.new ≡ (loads_term size self.old register address).next }
         ensures out { result ≡ out_of (loads_term size self.old register address) }
         ensures memory { length self.new.memory ≡ MEMORY_WORDS }
@@ -133,9 +129,7 @@ impl TermTile {
 
     // A term goes to the memory word at an address, or the tile traps.
     fn store(&mut self, size: usize, address: u32, number: u32) -> TileOut
-        requires going { self.old.mark ≡ Mark.Going }
-        requires count { self.old.count < MAX_STEPS }
-        requires memory { length self.old.memory ≡ MEMORY_WORDS }
+        requires { MayStep self.old }
         ensures next { self.new ≡ (stores_term size self.old address number).next }
         ensures out { result ≡ out_of (stores_term size self.old address number) }
         ensures memory { length self.new.memory ≡ MEMORY_WORDS }
@@ -148,9 +142,7 @@ impl TermTile {
 
     // A term goes to the memory word at an address.
     fn put(&mut self, size: usize, address: u32, number: u32) -> TileOut
-        requires going { self.old.mark ≡ Mark.Going }
-        requires count { self.old.count < MAX_STEPS }
-        requires memory { length self.old.memory ≡ MEMORY_WORDS }
+        requires may { MayStep self.old }
         requires inside { address < MEMORY_SIZE }
         ensures next { self.new ≡ (stored_term size self.old address number).next }
         ensures out { result ≡ out_of (stored_term size self.old address number) }
@@ -185,9 +177,7 @@ impl TermTile {
         a: u32,
         b: u32,
     ) -> Result<Option<TileOut>, TermRefusal>
-        requires going { self.old.mark ≡ Mark.Going }
-        requires count { self.old.count < MAX_STEPS }
-        requires memory { length self.old.memory ≡ MEMORY_WORDS }
+        requires { MayStep self.old }
         ensures fired { IfOk result (λ out. IsFired table.old self.old
             (term_effect table.old (Some ins.now) size self.old a b) table.new self.new out) }
         ensures too_many { result ≡ Err TermRefusal.TooMany →

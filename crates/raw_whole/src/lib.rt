@@ -5,6 +5,7 @@
 
 mod gathering;
 mod lines;
+mod rested;
 mod sends;
 mod turns;
 mod writing;

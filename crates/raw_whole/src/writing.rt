@@ -11,6 +11,7 @@ ghost use Rattle.raw_whole.specs.Kept.{IsWhole};
 
 use crate::gathering::Whole;
 use crate::lines::{distances_word, sent_head, turns_head, turns_word, whole_head};
+use crate::rested::RestedRun;
 use raw_grid::{ProcId, WireId};
 use raw_io::{Failed, Sink, put_all};
 use raw_serial::{Machine, Turn};
@@ -67,38 +68,23 @@ fn put_turns_line<K: Sink>(
 }
 
 // Puts the line of a processor.
-fn put_processor<K: Sink>(
-    machine: &Machine<'_>,
-    whole: &Whole,
-    cycles: u64,
-    p: ProcId,
-    out: &mut K,
-) -> Result<(), Failed>
-    requires there { p.0 < proc_count machine.now.set.topo }
-    requires rests { machine.now.state ≡ machine_at (clock machine.now.set cycles) }
-    requires whole { IsWhole machine.now.set cycles whole.now }
+fn put_processor<K: Sink>(run: &RestedRun<'_, '_>, p: ProcId, out: &mut K) -> Result<(), Failed>
+    requires { p.0 < proc_count run.now.machine.now.set.topo }
     ensures { Writes (K.sight out.old) (K.sight out.new)
-        (turns_line machine.now.set cycles p.0) result }
+        (turns_line run.now.machine.now.set run.now.cycles p.0) result }
 {
-    let kept = &whole.turns[p.0 as usize];
-    put_turns_line(machine, p, &kept.pieces, out)
+    let kept = &run.whole.turns[p.0 as usize];
+    put_turns_line(run.machine, p, &kept.pieces, out)
 }
 
 // Puts the lines of all processors, by rising number.
-fn put_processors<K: Sink>(
-    machine: &Machine<'_>,
-    whole: &Whole,
-    cycles: u64,
-    out: &mut K,
-) -> Result<(), Failed>
-    requires rests { machine.now.state ≡ machine_at (clock machine.now.set cycles) }
-    requires whole { IsWhole machine.now.set cycles whole.now }
+fn put_processors<K: Sink>(run: &RestedRun<'_, '_>, out: &mut K) -> Result<(), Failed>
     ensures { Writes (K.sight out.old) (K.sight out.new)
-        (flat_map (turns_line machine.now.set cycles) (range_with_len 0 (proc_count machine.now.set.topo))) result }
+        (flat_map (turns_line run.now.machine.now.set run.now.cycles) (range_with_len 0 (proc_count run.now.machine.now.set.topo))) result }
 {
-    let procs = machine.procs();
+    let procs = run.machine.procs();
     'all: for p in 0..procs {
-        put_processor(machine, whole, cycles, ProcId(p), out)?;
+        put_processor(run, ProcId(p), out)?;
     }
     Ok(())
 }
@@ -147,20 +133,14 @@ fn put_wire<K: Sink>(wire: WireId, pieces: &[(u32, u32)], out: &mut K) -> Result
 }
 
 // Puts the lines of the wires, by rising number.
-fn put_wires<K: Sink>(
-    machine: &Machine<'_>,
-    whole: &Whole,
-    cycles: u64,
-    out: &mut K,
-) -> Result<(), Failed>
-    requires { IsWhole machine.now.set cycles whole.now }
+fn put_wires<K: Sink>(run: &RestedRun<'_, '_>, out: &mut K) -> Result<(), Failed>
     ensures { Writes (K.sight out.old) (K.sight out.new)
-        (flat_map (sent_line machine.now.set cycles) (range_with_len 0 (length (wires_of machine.now.set.topo)))) result }
+        (flat_map (sent_line run.now.machine.now.set run.now.cycles) (range_with_len 0 (length (wires_of run.now.machine.now.set.topo)))) result }
 {
-    let set = machine.set();
+    let set = run.machine.set();
     let wires = set.topo.wires();
     'all: for w in 0..wires {
-        let kept = &whole.sends[w as usize];
+        let kept = &run.whole.sends[w as usize];
         put_wire(WireId(w), &kept.pieces, out)?;
     }
     Ok(())
@@ -168,20 +148,13 @@ fn put_wires<K: Sink>(
 
 // Puts the lines of the processors and of the wires.
 #[tactic(auto, using(raw_io::proofs::Chains::chained))]
-fn put_all_lines<K: Sink>(
-    machine: &Machine<'_>,
-    whole: &Whole,
-    cycles: u64,
-    out: &mut K,
-) -> Result<(), Failed>
-    requires rests { machine.now.state ≡ machine_at (clock machine.now.set cycles) }
-    requires whole { IsWhole machine.now.set cycles whole.now }
+fn put_all_lines<K: Sink>(run: &RestedRun<'_, '_>, out: &mut K) -> Result<(), Failed>
     ensures { Writes (K.sight out.old) (K.sight out.new)
-        (flat_map (turns_line machine.now.set cycles) (range_with_len 0 (proc_count machine.now.set.topo))
-        ++ flat_map (sent_line machine.now.set cycles) (range_with_len 0 (length (wires_of machine.now.set.topo)))) result }
+        (flat_map (turns_line run.now.machine.now.set run.now.cycles) (range_with_len 0 (proc_count run.now.machine.now.set.topo))
+        ++ flat_map (sent_line run.now.machine.now.set run.now.cycles) (range_with_len 0 (length (wires_of run.now.machine.now.set.topo)))) result }
 {
-    put_processors(machine, whole, cycles, out)?;
-    put_wires(machine, whole, cycles, out)
+    put_processors(run, out)?;
+    put_wires(run, out)
 }
 
 /// Writes the lines of the whole run of a set that has so many cycles, whose machine came to rest by the clock. It takes no
@@ -201,5 +174,10 @@ pub fn write_whole<K: Sink>(
         (whole_text machine.now.set cycles) result }
 {
     put_line(&whole_head(cycles), out)?;
-    put_all_lines(machine, whole, cycles, out)
+    let run = RestedRun {
+        machine,
+        whole,
+        cycles,
+    };
+    put_all_lines(&run, out)
 }

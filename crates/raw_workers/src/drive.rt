@@ -19,8 +19,8 @@
 ghost use Rattle.std.specs.Prelude.{◌≡◌, ◌%◌, ◌<◌, true, length, vec_len};
 ghost use Rattle.atomic_table.specs.Seated.{TableId};
 ghost use Rattle.raw_fabric_rule.specs.Views.{About};
-ghost use Rattle.raw_fabric.specs.Opened.{about_of, id_of, IsOpen, IsPostOf, IsPass, ArePasses, Holds};
-ghost use Rattle.raw_workers.specs.Swept.{HasSwept};
+ghost use Rattle.raw_fabric.specs.Opened.{about_of, id_of, IsOpen, IsPostOf, IsPass, ArePasses, Holds, CallStands};
+ghost use Rattle.raw_workers.specs.Swept.{IsPassOf, IsSweptPass};
 
 use crate::activity::{Activity, MANY_LOOKS};
 use crate::pace::time;
@@ -46,12 +46,9 @@ fn take_row<G: Gate>(
     told: u64,
     gate: &G,
 ) -> (Swept, FabricTurn)
-    requires fabric { IsOpen fabric.now }
-    requires pass { IsPass (about_of fabric.now) (id_of fabric.now) pass.old.log.worker pass.old }
-    requires holds { Holds (about_of fabric.now) pass.old post.now.p }
+    requires stands { CallStands fabric.now pass.old post.now.p }
     requires post { IsPostOf fabric.now post.now }
-    ensures pass { IsPass (about_of fabric.now) (id_of fabric.now) pass.old.log.worker pass.new }
-    ensures swept { HasSwept result.0 pass.old pass.new }
+    ensures { IsSweptPass fabric.now result.0 pass.old pass.new }
 {
     let before = pass.log().steps.len();
     let turn = fabric.take_turns(pass, post, TURNS, told, gate);
@@ -68,11 +65,8 @@ fn turns<G: Gate>(
     told: u64,
     gate: &G,
 ) -> (Swept, Option<WireId>)
-    requires fabric { IsOpen fabric.now }
-    requires pass { IsPass (about_of fabric.now) (id_of fabric.now) pass.old.log.worker pass.old }
-    requires holds { Holds (about_of fabric.now) pass.old p.0 }
-    ensures pass { IsPass (about_of fabric.now) (id_of fabric.now) pass.old.log.worker pass.new }
-    ensures swept { HasSwept result.0 pass.old pass.new }
+    requires { CallStands fabric.now pass.old p.0 }
+    ensures { IsSweptPass fabric.now result.0 pass.old pass.new }
 {
     let post = fabric.post(p);
     let mut swept = Swept::Idle;
@@ -117,11 +111,8 @@ fn visit<G: Gate>(
     told: u64,
     gate: &G,
 ) -> Swept
-    requires fabric { IsOpen fabric.now }
-    requires pass { IsPass (about_of fabric.now) (id_of fabric.now) pass.old.log.worker pass.old }
-    requires holds { Holds (about_of fabric.now) pass.old p.0 }
-    ensures pass { IsPass (about_of fabric.now) (id_of fabric.now) pass.old.log.worker pass.new }
-    ensures swept { HasSwept result pass.old pass.new }
+    requires { CallStands fabric.now pass.old p.0 }
+    ensures { IsSweptPass fabric.now result pass.old pass.new }
 {
     let mut swept = Swept::Idle;
     let mut q = p;
@@ -143,10 +134,8 @@ fn visit<G: Gate>(
 
 // Gives each processor of the pass its turns.
 fn sweep<G: Gate>(topo: &Topo, fabric: &Fabric<'_>, pass: &mut Pass, told: u64, gate: &G) -> Swept
-    requires fabric { IsOpen fabric.now }
-    requires pass { IsPass (about_of fabric.now) (id_of fabric.now) pass.old.log.worker pass.old }
-    ensures pass { IsPass (about_of fabric.now) (id_of fabric.now) pass.old.log.worker pass.new }
-    ensures swept { HasSwept result pass.old pass.new }
+    requires { IsPassOf fabric.now pass.old }
+    ensures { IsSweptPass fabric.now result pass.old pass.new }
 {
     let workers = fabric.workers();
     let procs = fabric.procs();
@@ -173,10 +162,8 @@ fn take_turn<R: Clock, G: Gate>(
     told: u64,
     gate: &G,
 ) -> Swept
-    requires fabric { IsOpen fabric.now }
-    requires pass { IsPass (about_of fabric.now) (id_of fabric.now) pass.old.log.worker pass.old }
-    ensures pass { IsPass (about_of fabric.now) (id_of fabric.now) pass.old.log.worker pass.new }
-    ensures swept { HasSwept result pass.old pass.new }
+    requires { IsPassOf fabric.now pass.old }
+    ensures { IsSweptPass fabric.now result pass.old pass.new }
 {
     for look in 0..MANY_LOOKS {
         let swept = sweep(topo, fabric, pass, told, gate);
@@ -200,8 +187,7 @@ fn advance<R: Clock, G: Gate>(
     told: u64,
     gate: &G,
 ) -> bool
-    requires fabric { IsOpen fabric.now }
-    requires pass { IsPass (about_of fabric.now) (id_of fabric.now) pass.old.log.worker pass.old }
+    requires { IsPassOf fabric.now pass.old }
     ensures pass { IsPass (about_of fabric.now) (id_of fabric.now) pass.old.log.worker pass.new }
     ensures longer { result ≡ true → vec_len pass.old.log.steps < vec_len pass.new.log.steps }
 {
@@ -236,8 +222,7 @@ fn drive<R: Clock, G: Gate>(
     told: &Told,
     gate: &G,
 )
-    requires fabric { IsOpen fabric.now }
-    requires pass { IsPass (about_of fabric.now) (id_of fabric.now) pass.old.log.worker pass.old }
+    requires { IsPassOf fabric.now pass.old }
     ensures { IsPass (about_of fabric.now) (id_of fabric.now) pass.old.log.worker pass.new }
 {
     let told = told.get(pass.worker() as usize).copied().unwrap_or(0);

@@ -7,6 +7,6 @@ use Rattle.raw_clock_text.proofs.parts.put_ports.Given as goal
 
 abbrev pub invariant-loop-i : goal.invariant-loop-i
 invariant-loop-i g l =
-    let set = l.fn.m.set in
+    let set = l.fn.run.machine.now.set in
     let all = enumerate_from (2 * tile_count set.topo) set.topo.places in
-    Begun (g.K.Sink.sight l.fn.out) (g.K.Sink.sight l.out) (flat_map (port_text set l.fn.ran.cycles) (drop l.i all)) (flat_map (port_text set l.fn.ran.cycles) all)
+    Begun (g.K.Sink.sight l.fn.out) (g.K.Sink.sight l.out) (flat_map (port_text set l.fn.run.counts.now.cycles) (drop l.i all)) (flat_map (port_text set l.fn.run.counts.now.cycles) all)

@@ -5,4 +5,4 @@ use Rattle.raw_state_text.proofs.Sections.{Numbered}
 use Rattle.raw_clock_text.proofs.parts.put_switches.Given as goal
 
 abbrev pub invariant-loop-t : goal.invariant-loop-t
-invariant-loop-t g l = (l.t-end ≡ tile_count l.fn.m.set.topo) × Numbered (g.K.Sink.sight l.fn.out) (g.K.Sink.sight l.out) (switch_text l.fn.m.set l.fn.ran.cycles) (tile_count l.fn.m.set.topo) l.t
+invariant-loop-t g l = (l.t-end ≡ tile_count l.fn.run.machine.now.set.topo) × Numbered (g.K.Sink.sight l.fn.out) (g.K.Sink.sight l.out) (switch_text l.fn.run.machine.now.set l.fn.run.counts.now.cycles) (tile_count l.fn.run.machine.now.set.topo) l.t

@@ -6,11 +6,11 @@ use Rattle.raw_clock_text.proofs.parts.put_wires.Goals as goal
 
 pub returns-in_err-put_wire : goal.returns-in_err-put_wire
 unfolding passed_lines
-returns-in_err-put_wire g c = failed_numbered _ (length (wires_of c.args.m.now.set.topo)) _ c.loop-w.invariant.1 (omega (arith, c.loop-w-test.true, c.loop-w.invariant.0)) c.in_err-put_wire.ensures c.from_residual.ensures.0
+returns-in_err-put_wire g c = failed_numbered _ (length (wires_of c.args.run.now.machine.now.set.topo)) _ c.loop-w.invariant.1 (omega (arith, c.loop-w-test.true, c.loop-w.invariant.0)) c.in_err-put_wire.ensures c.from_residual.ensures.0
 
 pub loop-w-preserved : goal.loop-w-preserved
-loop-w-preserved g c = (c.loop-w.invariant.0, more_numbered _ (length (wires_of c.args.m.now.set.topo)) _ c.loop-w.invariant.1 (omega (arith, c.loop-w-test.true, c.loop-w.invariant.0)) c.in_ok-put_wire.ensures)
+loop-w-preserved g c = (c.loop-w.invariant.0, more_numbered _ (length (wires_of c.args.run.now.machine.now.set.topo)) _ c.loop-w.invariant.1 (omega (arith, c.loop-w-test.true, c.loop-w.invariant.0)) c.in_ok-put_wire.ensures)
 
 pub returns : goal.returns
 unfolding passed_lines
-returns g c = all_numbered _ (length (wires_of c.args.m.now.set.topo)) _ c.loop-w.invariant.1 (omega (arith, c.loop-w-test.false, c.loop-w.invariant.0))
+returns g c = all_numbered _ (length (wires_of c.args.run.now.machine.now.set.topo)) _ c.loop-w.invariant.1 (omega (arith, c.loop-w-test.false, c.loop-w.invariant.0))

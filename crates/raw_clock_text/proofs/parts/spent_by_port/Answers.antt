@@ -3,4 +3,4 @@ use Rattle.raw_clock_text.specs.Text.{spent_by}
 use Rattle.raw_clock_text.proofs.parts.spent_by_port.Goals as goal
 
 pub returns : goal.returns
-returns c = c.spent_by.ensures ∙ ap (spent_by c.args.m.now.set c.args.ran.now.cycles) c.port_number.ensures.value
+returns c = c.spent_by.ensures ∙ ap (spent_by c.args.run.now.machine.now.set c.args.run.now.counts.now.cycles) c.port_number.ensures.value

@@ -13,17 +13,17 @@ put_ends-requires g c =
     let own = c.ends.result.now.inputs in
     subst
     (λ (set : ProgramSet). (end : ℕ) → end < 10 → IfSome (slice_index_or own end None) (λ w. (w < length (wires_of set.topo)) × (w < length c.deref.result.now)))
-    (sym (c.behind-m.view_is ∙ c.set.ensures.value))
+    (sym (c.behind-run.view_is ∙ c.set.ensures.value))
     (subst
-    (λ (xs : List ℕ). (end : ℕ) → end < 10 → IfSome (slice_index_or own end None) (λ w. (w < length (wires_of c.args.m.now.set.topo)) × (w < length xs)))
+    (λ (xs : List ℕ). (end : ℕ) → end < 10 → IfSome (slice_index_or own end None) (λ w. (w < length (wires_of c.args.run.now.machine.now.set.topo)) × (w < length xs)))
     (sym c.deref.ensures.value)
-    (inputs_there c.args.m.now.set c.args.ran.now.cycles c.args.p.0 c.ends.result.now c.ends.ensures c.args.ran.now.tally c.requires.counted.tally))
+    (inputs_there c.args.run.now.machine.now.set c.args.run.now.counts.now.cycles c.args.p.0 c.ends.result.now c.ends.ensures c.args.run.now.counts.now.tally c.args.run.now.tally))
 
 pub returns : goal.returns
 returns g c =
     let own = c.ends.result.now.inputs in
     same_text _ _ _ _ _
     (ap₂ (λ (set : ProgramSet) (xs : List ℕ). flat_map (λ end. waits_at set.topo c.args.p.0 xs (slice_index_or own end None)) (range_with_len 0 10))
-    (c.behind-m.view_is ∙ c.set.ensures.value) c.deref.ensures.value
-    ∙ inputs_text c.args.m.now.set c.args.ran.now.cycles c.args.p.0 c.ends.result.now c.ends.ensures c.args.ran.now.tally c.requires.counted.tally)
+    (c.behind-run.view_is ∙ c.set.ensures.value) c.deref.ensures.value
+    ∙ inputs_text c.args.run.now.machine.now.set c.args.run.now.counts.now.cycles c.args.p.0 c.ends.result.now c.ends.ensures c.args.run.now.counts.now.tally c.args.run.now.tally)
     c.put_ends.ensures

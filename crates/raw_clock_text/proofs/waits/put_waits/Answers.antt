@@ -6,11 +6,11 @@ use Rattle.raw_clock_text.proofs.waits.put_waits.Goals as goal
 
 pub returns-in_err-put_processor : goal.returns-in_err-put_processor
 unfolding wait_lines
-returns-in_err-put_processor g c = failed_numbered _ (proc_count c.args.m.now.set.topo) _ c.loop-p.invariant.1 (omega (arith, c.loop-p-test.true, c.loop-p.invariant.0)) c.in_err-put_processor.ensures c.from_residual.ensures.0
+returns-in_err-put_processor g c = failed_numbered _ (proc_count c.args.run.now.machine.now.set.topo) _ c.loop-p.invariant.1 (omega (arith, c.loop-p-test.true, c.loop-p.invariant.0)) c.in_err-put_processor.ensures c.from_residual.ensures.0
 
 pub loop-p-preserved : goal.loop-p-preserved
-loop-p-preserved g c = (c.loop-p.invariant.0, more_numbered _ (proc_count c.args.m.now.set.topo) _ c.loop-p.invariant.1 (omega (arith, c.loop-p-test.true, c.loop-p.invariant.0)) c.in_ok-put_processor.ensures)
+loop-p-preserved g c = (c.loop-p.invariant.0, more_numbered _ (proc_count c.args.run.now.machine.now.set.topo) _ c.loop-p.invariant.1 (omega (arith, c.loop-p-test.true, c.loop-p.invariant.0)) c.in_ok-put_processor.ensures)
 
 pub returns : goal.returns
 unfolding wait_lines
-returns g c = all_numbered _ (proc_count c.args.m.now.set.topo) _ c.loop-p.invariant.1 (omega (arith, c.loop-p-test.false, c.loop-p.invariant.0))
+returns g c = all_numbered _ (proc_count c.args.run.now.machine.now.set.topo) _ c.loop-p.invariant.1 (omega (arith, c.loop-p-test.false, c.loop-p.invariant.0))

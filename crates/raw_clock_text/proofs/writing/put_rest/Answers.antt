@@ -6,5 +6,5 @@ use Rattle.raw_clock_text.proofs.writing.put_rest.Goals as goal
 
 pub returns : goal.returns
 returns g c =
-    let set = c.args.m.now.set in
-    same_text _ _ _ _ _ (ap (λ s. outcome_lines set s (outcome set s)) c.requires.counted.state) c.put_outcome.ensures
+    let set = c.args.run.now.machine.now.set in
+    same_text _ _ _ _ _ (ap (λ s. outcome_lines set s (outcome set s)) c.args.run.now.state) c.put_outcome.ensures

@@ -5,7 +5,7 @@ use Rattle.raw_flow.proofs.giving.give_input.Goals as goal
 pub overflow_add-result : goal.overflow_add-result
 overflow_add-result c =
     let few = few_inputs c.args.flow.now.nodes in
-    let limit = c.requires.ready.few_nodes in
+    let limit = c.requires.stands.ready.few_nodes in
     let within = c.requires.inputs in
     let more = no_less c.args.node c.args.k in
     omega arith

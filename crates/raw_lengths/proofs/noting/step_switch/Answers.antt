@@ -20,14 +20,14 @@ use Rattle.raw_lengths.proofs.noting.step_switch.Goals.{After-switch_needs-needs
 needs : (c : After-switch_needs-needs)
     → AreNeedsOf c.args.set.now c.args.p.0 (Switch c.args.unit.now.state) c.args.ends.now (wires_in c.switch_needs-needs.result.inputs c.args.ends.now.inputs) (wires_in c.switch_needs-needs.result.outputs c.args.ends.now.outputs)
 needs c =
-    switch_needs c.args.set.now c.args.p.0 c.args.unit.now.state c.args.ends.now c.deref-code.result.now _ _ c.requires.ends (c.deref-code.ensures.value ∙ c.requires.unit.code)
-    (c.switch_needs-needs.ensures.takes c.args.set.now.topo c.args.p.0 c.args.ends.now c.requires.ends) (c.switch_needs-needs.ensures.sends c.args.set.now.topo c.args.p.0 c.args.ends.now c.requires.ends)
+    switch_needs c.args.set.now c.args.p.0 c.args.unit.now.state c.args.ends.now c.deref-code.result.now _ _ c.requires.stands.ends_are (c.deref-code.ensures.value ∙ c.requires.unit.code)
+    (c.switch_needs-needs.ensures.takes c.args.set.now.topo c.args.p.0 c.args.ends.now c.requires.stands.ends_are) (c.switch_needs-needs.ensures.sends c.args.set.now.topo c.args.p.0 c.args.ends.now c.requires.stands.ends_are)
 
 needs_then : (c : After-take_inputs-given)
     → AreNeedsOf c.args.set.now c.args.p.0 (Switch c.args.unit.now.state) c.args.ends.now (wires_in c.switch_needs-needs.result.inputs c.args.ends.now.inputs) (wires_in c.switch_needs-needs.result.outputs c.args.ends.now.outputs)
 needs_then c =
-    switch_needs c.args.set.now c.args.p.0 c.args.unit.now.state c.args.ends.now c.deref-code.result.now _ _ c.requires.ends (c.deref-code.ensures.value ∙ c.requires.unit.code)
-    (c.switch_needs-needs.ensures.takes c.args.set.now.topo c.args.p.0 c.args.ends.now c.requires.ends) (c.switch_needs-needs.ensures.sends c.args.set.now.topo c.args.p.0 c.args.ends.now c.requires.ends)
+    switch_needs c.args.set.now c.args.p.0 c.args.unit.now.state c.args.ends.now c.deref-code.result.now _ _ c.requires.stands.ends_are (c.deref-code.ensures.value ∙ c.requires.unit.code)
+    (c.switch_needs-needs.ensures.takes c.args.set.now.topo c.args.p.0 c.args.ends.now c.requires.stands.ends_are) (c.switch_needs-needs.ensures.sends c.args.set.now.topo c.args.p.0 c.args.ends.now c.requires.stands.ends_are)
 
 -- the values that it takes, how they are given to it, and what it sends
 abbrev values : After-take_inputs-given → List ℕ
@@ -36,7 +36,7 @@ values c = fronts (wires_in c.switch_needs-needs.result.inputs c.args.ends.now.i
 given_code : (c : After-take_inputs-given) → c.take_inputs-given.result ≡ given_to c.args.set.now.topo c.args.p.0 (next_instruction c.deref-code.result.now c.args.unit.now.state) (values c)
 given_code c =
     c.take_inputs-given.ensures.given
-    ∙ given_next c.args.set.now.topo c.args.p.0 c.args.ends.now (next_instruction c.deref-code.result.now c.args.unit.now.state) c.switch_needs-needs.result.inputs (values c) c.requires.ends
+    ∙ given_next c.args.set.now.topo c.args.p.0 c.args.ends.now (next_instruction c.deref-code.result.now c.args.unit.now.state) c.switch_needs-needs.result.inputs (values c) c.requires.stands.ends_are
     (some_inside c.deref-code.result.now c.args.unit.now.state.pc (search (rules, (c.deref-code.ensures.value ∙ c.requires.unit.code)))) c.switch_needs-needs.ensures.inputs
 
 given : (c : After-take_inputs-given) → c.take_inputs-given.result ≡ given_to c.args.set.now.topo c.args.p.0 (next_instruction (switch_code c.args.set.now c.args.p.0) c.args.unit.now.state) (values c)
@@ -45,7 +45,7 @@ given c = given_code c ∙ ap (λ (code : List SwitchInstruction). given_to c.ar
 sent : (c : After-take_inputs-given) → sent_at c.args.ends.now.outputs (routed c.instruction-step.result.now c.args.unit.now.state.regs c.take_inputs-given.result)
     ≡ (row c.args.set.now c.args.p.0 (Switch c.args.unit.now.state) (values c)).sent
 sent c =
-    sent_is c.args.set.now c.args.p.0 c.args.unit.now.state c.args.ends.now c.deref-code.result.now (values c) c.take_inputs-given.result _ c.requires.ends (c.deref-code.ensures.value ∙ c.requires.unit.code) (given_code c)
+    sent_is c.args.set.now c.args.p.0 c.args.unit.now.state c.args.ends.now c.deref-code.result.now (values c) c.take_inputs-given.result _ c.requires.stands.ends_are (c.deref-code.ensures.value ∙ c.requires.unit.code) (given_code c)
     (sym (ap (λ (next : Option SwitchInstruction). (effect_of next (length c.deref-code.result.now) c.args.unit.now.state c.take_inputs-given.result).sent) c.instruction-step.ensures))
 
 none : (c : After-take_inputs-given) → unmet_of c.args.set.now c.args.p.0 (Switch c.args.unit.now.state) c.args.wires.now ≡ None
@@ -68,12 +68,12 @@ pub put_routes-requires-clause-there : goal.put_routes-requires-clause-there
 put_routes-requires-clause-there c =
     let at = (goal.at.put_routes-requires-clause-there c).After-take_inputs-given in
     put_there c.args.set.now c.args.p.0 (Switch c.args.unit.now.state) (values at) (length c.take_inputs-given.new.self) _ (sent at)
-    (ap length c.take_inputs-given.ensures.rest ∙ length-taken (wires_in c.switch_needs-needs.result.inputs c.args.ends.now.inputs) c.args.wires.now ∙ c.requires.wires)
+    (ap length c.take_inputs-given.ensures.rest ∙ length-taken (wires_in c.switch_needs-needs.result.inputs c.args.ends.now.inputs) c.args.wires.now ∙ c.requires.stands.each)
 
 pub put_routes-requires-clause-room : goal.put_routes-requires-clause-room
 put_routes-requires-clause-room c =
     let at = (goal.at.put_routes-requires-clause-room c).After-take_inputs-given in
-    put_room c.args.set.now c.args.p.0 (Switch c.args.unit.now.state) (values at) c.args.wires.now c.take_inputs-given.new.self _ (sent at) c.requires.valid.small_depth (took at)
+    put_room c.args.set.now c.args.p.0 (Switch c.args.unit.now.state) (values at) c.args.wires.now c.take_inputs-given.new.self _ (sent at) c.requires.stands.valid.small_depth (took at)
 
 pub take_branch-requires-clause-look : goal.take_branch-requires-clause-look
 take_branch-requires-clause-look c =

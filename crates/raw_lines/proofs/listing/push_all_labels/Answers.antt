@@ -1,6 +1,6 @@
-use Rattle.std.proofs.Common.{◌+◌, ◌++◌, take, ap, ◌∙◌, arith}
-use Rattle.raw_text.specs.Text.{text_lines}
+use Rattle.std.proofs.Common.{◌+◌, ◌++◌, ap, ◌∙◌, arith}
 use Rattle.raw_lines.specs.Sections.{part_for}
+use Rattle.raw_lines.specs.LabelsOf.{lines_in}
 use Rattle.raw_lines.specs.Lines.{told_of, label_lines, labels_of}
 use Rattle.raw_lines.proofs.Ranges.{one_more}
 use Rattle.raw_lines.proofs.listing.push_all_labels.Goals as goal
@@ -8,9 +8,9 @@ use Rattle.raw_lines.proofs.listing.push_all_labels.Goals as goal
 pub loop-tile-preserved : goal.loop-tile-preserved
 loop-tile-preserved c =
     let kind = c.args.kind in
-    let topo = c.args.topo.now in
-    let lines = take c.args.to (text_lines c.args.text.now) in
-    let sections = c.args.sections.now in
+    let topo = c.args.labels.now.topo.now in
+    let lines = lines_in c.args.labels.now in
+    let sections = c.args.labels.now.sections.items in
     let t = c.loop-tile.tile in
     let mid = c.loop-tile.bytes.items in
     one_more (labels_of kind topo lines sections) 0 t (t + 1) t _ mid _ (omega arith) (omega arith) c.loop-tile.invariant

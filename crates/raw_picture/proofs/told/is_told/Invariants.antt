@@ -10,7 +10,7 @@ abbrev pub invariant-loop-step : goal.invariant-loop-step
 invariant-loop-step l =
     let next = waits_for l.m.set l.m.state in
     record {
-      there : 0 < l.fn.told.count → l.next.0 < proc_count l.m.set.topo;
-      left : list_any (λ q. q == l.p.0) (stretch next (l.fn.told.count - l._step) (Some l.next.0))
-          ≡ list_any (λ q. q == l.p.0) (stretch next l.fn.told.count (Some l.fn.told.first.0));
+      there : 0 < l.fn.drawn.listed.count → l.next.0 < proc_count l.m.set.topo;
+      left : list_any (λ q. q == l.p.0) (stretch next (l.fn.drawn.listed.count - l._step) (Some l.next.0))
+          ≡ list_any (λ q. q == l.p.0) (stretch next l.fn.drawn.listed.count (Some l.fn.drawn.listed.first.0));
     }

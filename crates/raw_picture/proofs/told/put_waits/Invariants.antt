@@ -11,8 +11,8 @@ invariant-loop-step g l =
     let m = l.m in
     let next = waits_for m.set m.state in
     record {
-      there : 0 < l.fn.told.count → l.p.0 < proc_count m.set.topo;
+      there : 0 < l.fn.drawn.listed.count → l.p.0 < proc_count m.set.topo;
       begun : Begun (g.K.Sink.sight l.fn.out) (g.K.Sink.sight l.out)
-          (waits_told l.telling m.set m.state l.first (stretch next (l.fn.told.count - l._step) (Some l.p.0)))
-          (waits_told l.telling m.set m.state true (stretch next l.fn.told.count (Some l.fn.told.first.0)));
+          (waits_told l.telling m.set m.state l.first (stretch next (l.fn.drawn.listed.count - l._step) (Some l.p.0)))
+          (waits_told l.telling m.set m.state true (stretch next l.fn.drawn.listed.count (Some l.fn.drawn.listed.first.0)));
     }

@@ -14,4 +14,4 @@ compare_terms-requires c =
     let at : TermState = state_of c.args.machine.now in
     let got_is : c.deref.result.now ≡ got_in set c.args.order.now at.state = c.deref.ensures.value ∙ c.in_ok-got.ensures in
     let due_is : c.deref-in-Ok.result.now ≡ due_in s c.args.order.now (all_terms s at.nodes).values = c.deref-in-Ok.ensures.value ∙ c.in-Ok.ensures.due in
-    ap length got_is ∙ as_many set s c.args.order.now c.requires.ports c.requires.sinks at.state c.requires.counts (all_terms s at.nodes).values (terms_counted s at.nodes) ∙ sym (ap length due_is)
+    ap length got_is ∙ as_many set s c.args.order.now c.requires.fits.claim.ports c.requires.fits.claim.sinks at.state c.requires.counts (all_terms s at.nodes).values (terms_counted s at.nodes) ∙ sym (ap length due_is)

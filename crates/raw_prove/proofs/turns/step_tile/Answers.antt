@@ -22,9 +22,9 @@ use Rattle.raw_prove.proofs.turns.step_tile.Goals.{After-step_wires-needs, After
 needs : (c : After-step_wires-needs)
     → AreNeedsOf c.args.set.now c.args.p.0 (Tile c.args.unit.now.tile) c.args.ends.now (taken_by c.step_wires-needs.result) (sent_by c.step_wires-needs.result)
 needs c =
-    tile_needs c.args.set.now c.args.p.0 c.args.unit.now.tile c.args.ends.now c.deref-code.result.now _ _ c.requires.ends (c.deref-code.ensures.value ∙ c.requires.unit.code)
-    (c.step_wires-needs.ensures.takes c.args.set.now.topo c.args.p.0 c.requires.ends ∙ ap (tile_takes c.args.set.now.topo c.args.p.0) (sym c.step_of-step.ensures))
-    (c.step_wires-needs.ensures.sends c.args.set.now.topo c.args.p.0 c.requires.ends ∙ ap (tile_sends c.args.set.now.topo c.args.p.0) (sym c.step_of-step.ensures))
+    tile_needs c.args.set.now c.args.p.0 c.args.unit.now.tile c.args.ends.now c.deref-code.result.now _ _ c.requires.stands.ends_are (c.deref-code.ensures.value ∙ c.requires.unit.code)
+    (c.step_wires-needs.ensures.takes c.args.set.now.topo c.args.p.0 c.requires.stands.ends_are ∙ ap (tile_takes c.args.set.now.topo c.args.p.0) (sym c.step_of-step.ensures))
+    (c.step_wires-needs.ensures.sends c.args.set.now.topo c.args.p.0 c.requires.stands.ends_are ∙ ap (tile_sends c.args.set.now.topo c.args.p.0) (sym c.step_of-step.ensures))
 
 pub take_operands-requires-clause-needs : goal.take_operands-requires-clause-needs
 take_operands-requires-clause-needs c = record { p = c.args.p.0; l = Tile c.args.unit.now.tile; needs = needs (goal.at.take_operands-requires-clause-needs c).After-step_wires-needs }
@@ -37,7 +37,7 @@ returns-in_default-clause-turn c =
 
 pub fire_tile-requires-clause-given : goal.fire_tile-requires-clause-given
 fire_tile-requires-clause-given c =
-    let networks = has_networks c.args.set.now.topo c.args.p.0 c.args.ends.now c.requires.valid.topology c.requires.unit.place c.requires.ends in
+    let networks = has_networks c.args.set.now.topo c.args.p.0 c.args.ends.now c.requires.stands.valid.topology c.requires.unit.place c.requires.stands.ends_are in
     let code = c.deref-code.ensures.value ∙ c.requires.unit.code ∙ sym c.tile_program.ensures in
     let next = ap (λ code. next_instruction code c.args.unit.now.tile) (sym code) ∙ c.step_of-step.ensures in
     record {
@@ -48,9 +48,9 @@ fire_tile-requires-clause-given c =
 needs_then : (c : After-fire_tile)
     → AreNeedsOf c.args.set.now c.args.p.0 (Tile c.args.unit.now.tile) c.args.ends.now (taken_by c.step_wires-needs.result) (sent_by c.step_wires-needs.result)
 needs_then c =
-    tile_needs c.args.set.now c.args.p.0 c.args.unit.now.tile c.args.ends.now c.deref-code.result.now _ _ c.requires.ends (c.deref-code.ensures.value ∙ c.requires.unit.code)
-    (c.step_wires-needs.ensures.takes c.args.set.now.topo c.args.p.0 c.requires.ends ∙ ap (tile_takes c.args.set.now.topo c.args.p.0) (sym c.step_of-step.ensures))
-    (c.step_wires-needs.ensures.sends c.args.set.now.topo c.args.p.0 c.requires.ends ∙ ap (tile_sends c.args.set.now.topo c.args.p.0) (sym c.step_of-step.ensures))
+    tile_needs c.args.set.now c.args.p.0 c.args.unit.now.tile c.args.ends.now c.deref-code.result.now _ _ c.requires.stands.ends_are (c.deref-code.ensures.value ∙ c.requires.unit.code)
+    (c.step_wires-needs.ensures.takes c.args.set.now.topo c.args.p.0 c.requires.stands.ends_are ∙ ap (tile_takes c.args.set.now.topo c.args.p.0) (sym c.step_of-step.ensures))
+    (c.step_wires-needs.ensures.sends c.args.set.now.topo c.args.p.0 c.requires.stands.ends_are ∙ ap (tile_sends c.args.set.now.topo c.args.p.0) (sym c.step_of-step.ensures))
 
 took : (c : After-fire_tile) → IsTaken c.args.set.now c.args.p.0 (Tile c.args.unit.now.tile) c.args.wires.now c.take_operands.new.wires (values_of c.in-Ok.given)
 took c = c.in-Ok.ensures.met c.args.p.0 (Tile c.args.unit.now.tile) (needs_then c)
@@ -65,22 +65,22 @@ pub put_out-requires-clause-there : goal.put_out-requires-clause-there
 put_out-requires-clause-there c =
     let at = (goal.at.put_out-requires-clause-there c).After-fire_tile in
     tile_there c.args.set.now c.args.p.0 c.args.ends.now c.args.unit.now.tile c.args.table.now c.args.wires.now c.take_operands.new.wires c.tile_program.result.now (values_of c.in-Ok.given)
-    c.requires.ends c.tile_program.ensures c.requires.going (took at) (length c.take_operands.new.wires) c.in-Ok-Some.out
-    (ap length (took at).rest ∙ length-taken (takes c.args.set.now c.args.p.0 (Tile c.args.unit.now.tile)) c.args.wires.now ∙ c.requires.wires)
+    c.requires.stands.ends_are c.tile_program.ensures c.requires.going (took at) (length c.take_operands.new.wires) c.in-Ok-Some.out
+    (ap length (took at).rest ∙ length-taken (takes c.args.set.now c.args.p.0 (Tile c.args.unit.now.tile)) c.args.wires.now ∙ c.requires.stands.each)
 
 pub put_out-requires-clause-room : goal.put_out-requires-clause-room
 put_out-requires-clause-room c =
     let at = (goal.at.put_out-requires-clause-room c).After-fire_tile in
     let some : c.fire_tile.result ≡ Ok (Some c.in-Ok-Some.out) = cc in
     tile_room c.args.set.now c.args.p.0 c.args.ends.now c.args.unit.now.tile c.args.table.now c.args.wires.now c.take_operands.new.wires c.tile_program.result.now (values_of c.in-Ok.given)
-    c.requires.ends c.tile_program.ensures c.requires.going (took at) c.fire_tile.new.table c.fire_tile.new.tile c.in-Ok-Some.out (fired at (Some c.in-Ok-Some.out) some) c.requires.valid.small_depth
+    c.requires.stands.ends_are c.tile_program.ensures c.requires.going (took at) c.fire_tile.new.table c.fire_tile.new.tile c.in-Ok-Some.out (fired at (Some c.in-Ok-Some.out) some) c.requires.stands.valid.small_depth
 
 pub returns-in-Ok-Some-clause-turn : goal.returns-in-Ok-Some-clause-turn
 returns-in-Ok-Some-clause-turn c =
     let at = (goal.at.returns-in-Ok-Some-clause-turn c).After-fire_tile in
     let some : c.fire_tile.result ≡ Ok (Some c.in-Ok-Some.out) = cc in
     tile_fired c.args.set.now c.args.p.0 c.args.ends.now c.args.unit.now.tile c.args.table.now c.args.wires.now c.take_operands.new.wires c.tile_program.result.now (values_of c.in-Ok.given)
-    c.requires.ends c.tile_program.ensures c.requires.going (took at) c.fire_tile.new.table c.fire_tile.new.tile c.put_out.new.self c.in-Ok-Some.out c.put_out.ensures (fired at (Some c.in-Ok-Some.out) some)
+    c.requires.stands.ends_are c.tile_program.ensures c.requires.going (took at) c.fire_tile.new.table c.fire_tile.new.tile c.put_out.new.self c.in-Ok-Some.out c.put_out.ensures (fired at (Some c.in-Ok-Some.out) some)
 
 pub returns-in-Ok-Some-clause-kept : goal.returns-in-Ok-Some-clause-kept
 returns-in-Ok-Some-clause-kept c =
@@ -97,14 +97,14 @@ returns-in-Ok-None-clause-turn c =
     let at = (goal.at.returns-in-Ok-None-clause-turn c).After-fire_tile in
     let none : c.fire_tile.result ≡ Ok None = cc in
     tile_hung c.args.set.now c.args.p.0 c.args.ends.now c.args.unit.now.tile c.args.table.now c.args.wires.now c.take_operands.new.wires c.tile_program.result.now (values_of c.in-Ok.given)
-    c.requires.ends c.tile_program.ensures c.requires.going (took at) c.fire_tile.new.table c.fire_tile.new.tile (fired at None none)
+    c.requires.stands.ends_are c.tile_program.ensures c.requires.going (took at) c.fire_tile.new.table c.fire_tile.new.tile (fired at None none)
 
 pub returns-in-Err-TooMany-clause-turn : goal.returns-in-Err-TooMany-clause-turn
 returns-in-Err-TooMany-clause-turn c =
     let at = (goal.at.returns-in-Err-TooMany-clause-turn c).After-fire_tile in
     let over : c.fire_tile.result ≡ Err TooMany = cc in
     tile_over c.args.set.now c.args.p.0 c.args.ends.now c.args.unit.now.tile c.args.table.now c.args.wires.now c.take_operands.new.wires c.tile_program.result.now (values_of c.in-Ok.given)
-    c.requires.ends c.tile_program.ensures c.requires.going (took at) (c.fire_tile.ensures.too_many over)
+    c.requires.stands.ends_are c.tile_program.ensures c.requires.going (took at) (c.fire_tile.ensures.too_many over)
 
 pub returns-in-Err-TooMany-clause-kept : goal.returns-in-Err-TooMany-clause-kept
 returns-in-Err-TooMany-clause-kept c =

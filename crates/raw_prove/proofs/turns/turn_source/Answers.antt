@@ -13,17 +13,17 @@ use Rattle.raw_prove.proofs.turns.turn_source.Goals.{After-source_needs, After-n
 needs : (c : After-source_needs)
     → AreNeedsOf c.args.set.now c.args.p.0 (Source c.args.unit.now.port.local) c.args.ends.now (wires_in c.source_needs.result.inputs c.args.ends.now.inputs) (wires_in c.source_needs.result.outputs c.args.ends.now.outputs)
 needs c = record {
-  ends = c.requires.ends;
+  ends = c.requires.stands.ends_are;
   takes = c.source_needs.ensures.takes c.args.ends.now;
-  sends = c.source_needs.ensures.sends c.args.set.now.topo c.args.p.0 c.args.ends.now c.requires.ends;
+  sends = c.source_needs.ensures.sends c.args.set.now.topo c.args.p.0 c.args.ends.now c.requires.stands.ends_are;
 }
 
 needs_then : (c : After-next_number-number)
     → AreNeedsOf c.args.set.now c.args.p.0 (Source c.args.unit.now.port.local) c.args.ends.now (wires_in c.source_needs.result.inputs c.args.ends.now.inputs) (wires_in c.source_needs.result.outputs c.args.ends.now.outputs)
 needs_then c = record {
-  ends = c.requires.ends;
+  ends = c.requires.stands.ends_are;
   takes = c.source_needs.ensures.takes c.args.ends.now;
-  sends = c.source_needs.ensures.sends c.args.set.now.topo c.args.p.0 c.args.ends.now c.requires.ends;
+  sends = c.source_needs.ensures.sends c.args.set.now.topo c.args.p.0 c.args.ends.now c.requires.stands.ends_are;
 }
 
 going : (c : After-next_number-number) → is_stopped c.args.set.now c.args.p.0 (Source c.args.unit.now.port.local) ≡ false
@@ -61,19 +61,19 @@ next_number-number-requires c =
 pub put_out-requires-clause-there : goal.put_out-requires-clause-there
 put_out-requires-clause-there c =
     let at = (goal.at.put_out-requires-clause-there c).After-next_number-number in
-    source_there c.args.set.now c.args.p.0 c.args.ends.now c.args.unit.now.port.local [] c.args.wires.now c.next_number-number.result c.requires.ends c.requires.unit.many (number at)
-    (going at) (none at) (length c.args.wires.now) c.requires.wires
+    source_there c.args.set.now c.args.p.0 c.args.ends.now c.args.unit.now.port.local [] c.args.wires.now c.next_number-number.result c.requires.stands.ends_are c.requires.unit.many (number at)
+    (going at) (none at) (length c.args.wires.now) c.requires.stands.each
 
 pub put_out-requires-clause-room : goal.put_out-requires-clause-room
 put_out-requires-clause-room c =
     let at = (goal.at.put_out-requires-clause-room c).After-next_number-number in
-    source_room c.args.set.now c.args.p.0 c.args.ends.now c.args.unit.now.port.local [] c.args.wires.now c.next_number-number.result c.requires.ends c.requires.unit.many (number at)
-    (going at) (none at) c.requires.valid.small_depth
+    source_room c.args.set.now c.args.p.0 c.args.ends.now c.args.unit.now.port.local [] c.args.wires.now c.next_number-number.result c.requires.stands.ends_are c.requires.unit.many (number at)
+    (going at) (none at) c.requires.stands.valid.small_depth
 
 pub returns-clause-turn : goal.returns-clause-turn
 returns-clause-turn c = λ nodes.
     let at = (goal.at.returns-clause-turn c).After-next_number-number in
-    source_fired c.args.set.now c.args.p.0 c.args.ends.now c.args.unit.now.port.local nodes c.args.wires.now c.next_number-number.result c.requires.ends c.requires.unit.many (number at)
+    source_fired c.args.set.now c.args.p.0 c.args.ends.now c.args.unit.now.port.local nodes c.args.wires.now c.next_number-number.result c.requires.stands.ends_are c.requires.unit.many (number at)
     (going at) (none at) c.next_number-number.new.unit.port.local c.put_out.new.self c.next_number-number.ensures.next c.put_out.ensures
 
 pub returns-clause-kept : goal.returns-clause-kept

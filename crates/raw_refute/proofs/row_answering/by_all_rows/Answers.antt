@@ -21,9 +21,13 @@ returns-in-Some c =
     (subst (λ (words : List ℕ). IsRowsJudged c.args.set.now c.args.stream.now c.args.order.now words (Some c.in-Some.fault)) c.deref.ensures.value
     (subst (λ (fault : Option Fault). IsRowsJudged c.args.set.now c.args.stream.now c.args.order.now c.deref.result.now fault) c.in-Some.is c.in_ok-ran.ensures.judged))
 
-pub not_by_own-requires-clause-right : goal.not_by_own-requires-clause-right
-not_by_own-requires-clause-right c =
+pub not_by_own-requires : goal.not_by_own-requires
+not_by_own-requires c =
     let again : c.deref-in-None.result.now ≡ c.in_ok-own.own.items = c.deref-in-None.ensures.value in
-    are_right c.args.set.now c.args.stream.now c.args.order.now c.deref-in-None.result.now c.requires.counts (again ∙ c.in_ok-own.ensures)
-    (subst (λ (words : List ℕ). IsRowsJudged c.args.set.now c.args.stream.now c.args.order.now words None) (c.deref.ensures.value ∙ sym again)
-    (subst (λ (fault : Option Fault). IsRowsJudged c.args.set.now c.args.stream.now c.args.order.now c.deref.result.now fault) c.in-None.is c.in_ok-ran.ensures.judged))
+    record {
+      valid = c.requires.valid;
+      claim = c.requires.claim;
+      right = are_right c.args.set.now c.args.stream.now c.args.order.now c.deref-in-None.result.now c.requires.counts (again ∙ c.in_ok-own.ensures)
+          (subst (λ (words : List ℕ). IsRowsJudged c.args.set.now c.args.stream.now c.args.order.now words None) (c.deref.ensures.value ∙ sym again)
+          (subst (λ (fault : Option Fault). IsRowsJudged c.args.set.now c.args.stream.now c.args.order.now c.deref.result.now fault) c.in-None.is c.in_ok-ran.ensures.judged));
+    }

@@ -1,5 +1,4 @@
 use Rattle.std.proofs.Common.{List, ℕ, sym, subst}
-use Rattle.raw_model.specs.Program.{ProgramSet, IsSet}
 use Rattle.raw_stream.specs.Streams.{Stream}
 use Rattle.raw_stream.specs.Unrolled.{unrolled}
 use Rattle.raw_term.specs.Claims.{Meets}
@@ -8,22 +7,17 @@ use Rattle.raw_stream_choice.specs.PortNumbers.{numbered}
 use Rattle.raw_stream_choice.proofs.Twins.{are_sinks, has_rows, has_ports, meets_stream}
 use Rattle.raw_stream_choice.proofs.meeting.is_twin_proved.Goals as goal
 
-pub prove_rows-requires-clause-rows : goal.prove_rows-requires-clause-rows
-prove_rows-requires-clause-rows c =
-    subst (λ (t : Stream). HasRows t) (sym c.requires.twin) (has_rows c.args.stream.now c.requires.stream c.requires.few)
-
-pub prove_rows-requires-clause-ports : goal.prove_rows-requires-clause-ports
-prove_rows-requires-clause-ports c =
-    let valid : IsSet c.args.set.now = subst (λ (set : ProgramSet). IsSet set) c.set.view_is c.set.invariant in
-    subst (λ (t : Stream). HasPortsOf c.args.set.now t) (sym c.requires.twin) (has_ports c.args.set.now c.args.stream.now valid c.requires.grid)
-
-pub prove_rows-requires-clause-sinks : goal.prove_rows-requires-clause-sinks
-prove_rows-requires-clause-sinks c =
+pub prove_rows-requires-clause-claim : goal.prove_rows-requires-clause-claim
+prove_rows-requires-clause-claim c =
     let s = c.args.stream.now in
-    subst (λ (t : Stream). AreSinksOf t c.args.sinks.now) (sym c.requires.twin)
-    (subst (λ (order : List ℕ). AreSinksOf (numbered s) order) (sym c.requires.sinks) (are_sinks s c.requires.stream.named))
+    record {
+      rows = subst (λ (t : Stream). HasRows t) (sym c.requires.stands.twin_is) (has_rows s c.requires.stands.stream c.requires.stands.few);
+      ports = subst (λ (t : Stream). HasPortsOf c.args.set.now t) (sym c.requires.stands.twin_is) (has_ports c.args.set.now s c.requires.stands.valid c.requires.stands.grid);
+      sinks = subst (λ (t : Stream). AreSinksOf t c.args.sinks.now) (sym c.requires.stands.twin_is)
+          (subst (λ (order : List ℕ). AreSinksOf (numbered s) order) (sym c.requires.sinks) (are_sinks s c.requires.stands.stream.named));
+    }
 
 pub returns-in-Proved : goal.returns-in-Proved
 returns-in-Proved c = λ yes.
-    meets_stream c.args.set.now c.args.stream.now c.requires.stream.named
-    (subst (λ (t : Stream). Meets c.args.set.now (unrolled t)) c.requires.twin (c.in_ok-prove_rows.ensures.meets c.in-Proved.field-0 c.in-Proved.is))
+    meets_stream c.args.set.now c.args.stream.now c.requires.stands.stream.named
+    (subst (λ (t : Stream). Meets c.args.set.now (unrolled t)) c.requires.stands.twin_is (c.in_ok-prove_rows.ensures.meets c.in-Proved.field-0 c.in-Proved.is))
