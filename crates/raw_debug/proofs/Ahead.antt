@@ -23,6 +23,7 @@ use Rattle.raw_debug.specs.Walking.{AtDone, NoneElse, HasGone, IsUnderWay, HasGo
 use Rattle.raw_debug.specs.Stops.{is_of, is_stop, sight_of, shows, IsSeenIn, OnlyLast}
 use Rattle.raw_debug.specs.Debugging.{IsPossibleAim}
 use Rattle.raw_debug.proofs.Walks.{moved_at, gone_done, moment_within}
+use Rattle.raw_debug.proofs.Standing.{passes_at}
 use Rattle.raw_debug.proofs.Alone.{wires_stay, goes_alone}
 use Rattle.raw_debug.proofs.Searching.{met}
 
@@ -81,10 +82,10 @@ module _ (old : Walk) (new : Running) (p register n : ℕ) (run : HasRunWithin o
 
   gone : (i : ℕ) → i < n → (done : List ℕ) → AtDone (stage i) done → HasGone (stage i) (stage (suc i)) p done
   gone i less done is =
-      goes_alone (stage i) (stage (suc i)) refl refl p last (is.alone alone) once there (ready i less) (behind_more old.machine p i) (λ e. run.within i less) done is
+      goes_alone (stage i) (stage (suc i)) refl refl refl p last (is.alone alone) once there (ready i less) (behind_more old.machine p i) (λ e. run.within i less) done is
 
   ways : (i : ℕ) → i ≤ n → IsUnderWay (stage i)
-  ways zero few = (way.0, record { at = record { place = way.1.at.place; alone = way.1.at.alone }; many = omega (arith, way.1.many) })
+  ways zero few = (way.0, record { at = record { place = way.1.at.place; passing = way.1.at.passing; alone = way.1.at.alone }; many = omega (arith, way.1.many) })
   ways (suc i) few =
       let before = ways i (omega (arith, few)) in
       (before.0 ++ p ∷ [], gone_done (stage i) (stage (suc i)) refl p before.0 (gone i (omega (arith, few)) before.0 before.1.at) (omega arith) before.1)
@@ -104,6 +105,7 @@ module _ (old : Walk) (new : Running) (p register n : ℕ) (run : HasRunWithin o
         record {
           at = record {
             place = moved_at old.machine.set new.set (behind n) new.state old.next old.next before.0 set (sym state) refl before.1.at.place;
+            passing = passes_at old.machine.set new.set (behind n) new.state old.passing.ends old.passing.ends set (sym state) refl before.1.at.passing;
             alone = λ on. subst (λ g. NoneElse g new.state old.next) (sym set) (subst (λ s. NoneElse old.machine.set s old.next) state (before.1.at.alone on));
           };
           many = before.1.many;

@@ -68,13 +68,14 @@ module _ (old mid new : Walk) (first : mid.machine.set ≡ old.machine.set) (sec
   }
 
 -- A walk whose next step, if there is one, is that of the processor whose turn was last.
-module _ (old new : Walk) (same : new.machine.set ≡ old.machine.set) (turn : new.next ≡ old.next) (p : ℕ) (last : old.next ≡ p + 1)
+module _ (old new : Walk) (same : new.machine.set ≡ old.machine.set) (turn : new.next ≡ old.next) (kept : new.passing ≡ old.passing) (p : ℕ) (last : old.next ≡ p + 1)
     (none : NoneElse old.machine.set old.machine.state old.next) where
   passed : HasPassed old (record old { next = 0 })
   passed = record {
     none = λ q low high. none.others q high (λ e. absurd (omega (arith, e, low)));
     stays = refl;
     next = refl;
+    passing = refl;
   }
 
   goes : p < proc_count old.machine.set.topo → enabled old.machine.set old.machine.state p ≡ true → new.machine.state ≡ step old.machine.set old.machine.state p
@@ -86,6 +87,7 @@ module _ (old new : Walk) (same : new.machine.set ≡ old.machine.set) (turn : n
     ready = ready;
     stepped = stepped;
     next = turn ∙ last;
+    passing = kept;
   }
 
   -- it takes a step

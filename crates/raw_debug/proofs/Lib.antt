@@ -5,6 +5,7 @@ pub mod TokenCounts
 pub mod Readings
 pub mod Following
 pub mod Shown
+pub mod Standing
 pub mod Walks
 pub mod Alone
 pub mod Leading

@@ -17,9 +17,10 @@ use Rattle.raw_model.specs.Serial.{serial}
 use Rattle.raw_model.proofs.Counts.{count-append}
 use Rattle.raw_serial.proofs.Leading.{quiet_is}
 use Rattle.raw_debug.specs.declared.walk.Walk.{Walk}
-use Rattle.raw_debug.specs.Walking.{up_to, state_after, count_at, moment_of, NoneElse, IsAt, AtDone, HasDone, IsUnderWay, IsFresh, HasStepped, HasPassed, HasGone, HasGoneOn, HasEnded}
+use Rattle.raw_debug.specs.Walking.{up_to, state_after, count_at, moment_of, NoneElse, IsAt, AtDone, HasDone, IsUnderWay, IsFresh, HasStepped, HasPassed, HasGone, HasGoneOn, HasEnded, PassesStopped}
 use Rattle.raw_debug.proofs.UpTo.{up_to_all, up_to_more, up_to_front}
 use Rattle.raw_debug.proofs.Counting.{count_is}
+use Rattle.raw_debug.proofs.Standing.{passes_stepped, passes_passed}
 use Rattle.raw_debug.proofs.Sweeping.{swept, stepped, begins, at_rest, fresh_at}
 
 -- the same place, said of another machine's set, state and turn
@@ -35,6 +36,7 @@ fresh_done of walk fresh = record {
   at = record {
     place = moved_at of walk.machine.set walk.machine.state walk.machine.state walk.next walk.next [] fresh.set refl refl
         (fresh_at of walk.machine.state walk.next fresh.state fresh.next);
+    passing = subst (λ g. PassesStopped g walk.machine.state walk.passing.ends) (sym fresh.set) fresh.passing;
     alone = λ on. absurd (cc (sym fresh.alone ∙ on));
   };
   many = fresh.moment;
@@ -49,7 +51,11 @@ module _ (old new : Walk) (same : new.machine.set ≡ old.machine.set) where
 
   pub stepped_on : (p : ℕ) → HasStepped old new p → new.alone ≡ false → (done : List ℕ) → AtDone old done → HasGone old new p done
   stepped_on p by off done at = record {
-    at = record { place = stepped_there p by done at.place; alone = λ on. absurd (cc (sym off ∙ on)) };
+    at = record {
+      place = stepped_there p by done at.place;
+      passing = passes_stepped old new same at.passing p by;
+      alone = λ on. absurd (cc (sym off ∙ on));
+    };
     ready = by.ready;
     stepped = by.stepped;
   }
@@ -84,7 +90,11 @@ module _ (old mid new : Walk) (first : mid.machine.set ≡ old.machine.set) (sec
   pub stepped_later : (p : ℕ) → HasStepped mid new p → (new.alone ≡ true → NoneElse new.machine.set new.machine.state new.next) → (done : List ℕ)
       → AtDone old done → HasGone old new p done
   stepped_later p by alone done at = record {
-    at = record { place = stepped_there mid new second p by done (passed_there old mid first passed done at.place); alone = alone };
+    at = record {
+      place = stepped_there mid new second p by done (passed_there old mid first passed done at.place);
+      passing = passes_stepped mid new second (passes_passed old mid first at.passing passed) p by;
+      alone = alone;
+    };
     ready = subst (λ g. enabled g old.machine.state p ≡ true) first (subst (λ s. enabled mid.machine.set s p ≡ true) passed.stays by.ready);
     stepped = by.stepped ∙ ap (λ s. step mid.machine.set s p) passed.stays ∙ ap (λ g. step g old.machine.state p) first;
   }
@@ -94,7 +104,11 @@ module _ (old mid new : Walk) (first : mid.machine.set ≡ old.machine.set) (sec
       → AtDone new done × IsQuiet new.machine.set new.machine.state
   rests_later by off fits done at =
       let fits_mid = subst (λ g. Fits g mid.machine.state) (sym first) (subst (Fits old.machine.set) (sym passed.stays) fits) in (
-        record { place = passed_there mid new second by done (passed_there old mid first passed done at.place); alone = λ on. absurd (cc (sym off ∙ on)) },
+        record {
+          place = passed_there mid new second by done (passed_there old mid first passed done at.place);
+          passing = passes_passed mid new second (passes_passed old mid first at.passing passed) by;
+          alone = λ on. absurd (cc (sym off ∙ on));
+        },
         none_left mid new second by passed.next fits_mid,
       )
 

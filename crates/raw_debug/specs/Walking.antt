@@ -1,11 +1,11 @@
 -- The serial order of a machine's steps, and where in it a step of a processor stands.
-use Rattle.std.specs.Prelude.{◌≡◌, ℕ, zero, suc, ◌+◌, ◌<◌, ◌≤◌, Bool, true, false, ◌==◌, nat_le, Option, Some, None, List, [], ◌∷◌, ◌++◌, take, length, if◌then◌else◌}
+use Rattle.std.specs.Prelude.{◌≡◌, ℕ, zero, suc, ◌+◌, ◌<◌, ◌≤◌, Bool, true, false, ◌==◌, nat_le, Option, Some, None, List, [], ◌∷◌, ◌++◌, take, length, slice_index, if◌then◌else◌}
 use Rattle.std.specs.List.{All, range_with_len}
 use Rattle.raw_network.specs.Network.{count_of}
 use Rattle.raw_grid.specs.Topology.{proc_count}
 use Rattle.raw_model.specs.Program.{ProgramSet}
 use Rattle.raw_model.specs.Start.{MachineState, start}
-use Rattle.raw_model.specs.Rest.{enabled, step, end, passed_on}
+use Rattle.raw_model.specs.Rest.{enabled, step, end, passed_on, stopped}
 use Rattle.raw_model.specs.Serial.{sweep_over, sweeps, serial}
 use Rattle.raw_debug.specs.declared.walk.Walk.{Walk}
 
@@ -51,10 +51,19 @@ pub record NoneElse (set : ProgramSet) (s : MachineState) (next : ℕ) : Type 0 
   pub some : 0 < next
   pub others : (q : ℕ) → q < proc_count set.topo → (q + 1 ≡ next → ⊥) → enabled set s q ≡ false
 
--- the state of the machine of a walk comes of these steps; where the walk goes on alone, only the processor whose turn was
+-- the processors from one number up to another are stopped
+abbrev pub AllStopped : ProgramSet → MachineState → ℕ → ℕ → Type 0
+AllStopped set s low high = (p : ℕ) → low ≤ p → p < high → stopped set s p ≡ true
+
+-- of each processor, it and those behind it are stopped up to the number that stands for it
+abbrev pub PassesStopped : ProgramSet → MachineState → List ℕ → Type 0
+PassesStopped set s ends = (p : ℕ) → p < length ends → AllStopped set s p (slice_index ends p)
+
+-- the state of the machine of a walk comes of these steps; what it passes over is stopped; where the walk goes on alone, only the processor whose turn was
 -- last may be enabled
 pub record AtDone (walk : Walk) (done : List ℕ) : Type 0 where
   pub place : IsAt walk.machine.set walk.machine.state walk.next done
+  pub passing : PassesStopped walk.machine.set walk.machine.state walk.passing.ends
   pub alone : walk.alone ≡ true → NoneElse walk.machine.set walk.machine.state walk.next
 
 -- the machine of a walk has taken these steps
@@ -89,6 +98,7 @@ pub record IsFresh (of : ProgramSet) (walk : Walk) : Type 0 where
   pub state : walk.machine.state ≡ start of
   pub next : walk.next ≡ 0
   pub moment : walk.moment ≡ 0
+  pub passing : PassesStopped of walk.machine.state walk.passing.ends
   pub alone : walk.alone ≡ false
 
 -- the first processor from the next one on that is enabled is p; it took its step, and its turn is over
@@ -99,12 +109,14 @@ pub record HasStepped (old new : Walk) (p : ℕ) : Type 0 where
   pub ready : enabled old.machine.set old.machine.state p ≡ true
   pub stepped : new.machine.state ≡ step old.machine.set old.machine.state p
   pub next : new.next ≡ p + 1
+  pub passing : new.passing ≡ old.passing
 
 -- no processor from the next one on is enabled, and the turn is that of processor 0
 pub record HasPassed (old new : Walk) : Type 0 where
   pub none : NoneEnabled old.machine.set old.machine.state old.next (proc_count old.machine.set.topo)
   pub stays : new.machine.state ≡ old.machine.state
   pub next : new.next ≡ 0
+  pub passing : new.passing ≡ old.passing
 
 -- one step more of the serial order was taken, by processor p
 pub record HasGone (old new : Walk) (p : ℕ) (done : List ℕ) : Type 0 where

@@ -14,6 +14,7 @@ mod debugger;
 mod debugging;
 mod laws;
 mod lines;
+mod passing;
 mod reading;
 mod sent;
 mod tokens;

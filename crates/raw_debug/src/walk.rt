@@ -10,12 +10,13 @@ ghost use Rattle.raw_model.specs.Serial.{serial};
 ghost use Rattle.raw_processor.specs.Processor.{local_of};
 ghost use Rattle.raw_processor.specs.Given.{taken_by, sent_by as sent_from};
 ghost use Rattle.raw_serial.specs.Within.{IsWithin};
-ghost use Rattle.raw_debug.specs.Walking.{moment_of, sent_by, led, AtDone, IsUnderWay, IsFresh, HasStepped, HasPassed, HasGone, HasGoneOn, HasStayed, HasEnded};
+ghost use Rattle.raw_debug.specs.Walking.{moment_of, sent_by, led, AtDone, IsUnderWay, IsFresh, HasStepped, HasPassed, HasGone, HasGoneOn, HasStayed, HasEnded, PassesStopped};
 ghost use Rattle.raw_debug.specs.Stops.{has_pc, word_in, stop_after, last_up_to, sight_of, shows, IsSeenIn, IsLocal, OnlyLast, GoesPast};
 ghost use Rattle.raw_debug.specs.Sending.{IsSent};
 ghost use Rattle.raw_debug.specs.Debugging.{IsPossibleAim};
 
 use crate::command::Aim;
+use crate::passing::Passing;
 use crate::sent::Sent;
 use raw_grid::{ProcId, WireId};
 use raw_model::{Set, law_bound, law_queues, law_serial, law_steps, law_wired};
@@ -40,6 +41,8 @@ pub(crate) struct Walk<'s> {
     pub(crate) moment: u64,
     /// Whether only the processor whose turn was last may be enabled. Where it is not set, that is not known.
     pub(crate) alone: bool,
+    /// Which processors it passes over.
+    pub(crate) passing: Passing,
 }
 
 impl<'s> Walk<'s> {
@@ -48,11 +51,13 @@ impl<'s> Walk<'s> {
         ensures { IfOk result (λ walk. IsFresh set.now walk) }
     {
         let machine = Machine::open(alloc, set)?;
+        let passing = Passing::at(&machine);
         Ok(Walk {
             machine,
             next: 0,
             moment: 0,
             alone: false,
+            passing,
         })
     }
 }
@@ -67,6 +72,7 @@ impl Walk<'_> {
         self.next = other.next;
         self.moment = other.moment;
         self.alone = other.alone;
+        self.passing = other.passing;
     }
 
     /// Starts anew.
@@ -77,6 +83,15 @@ impl Walk<'_> {
         self.next = 0;
         self.moment = 0;
         self.alone = false;
+        self.passing = Passing::at(&self.machine);
+    }
+
+    // Looks which processors are stopped, so that they are passed over from here on.
+    fn pass_stopped(&mut self)
+        requires { IsUnderWay self.old }
+        ensures { HasStayed self.old self.new }
+    {
+        self.passing = Passing::at(&self.machine);
     }
 
     // Whether the processor before a place is a tile whose next step takes nothing from a wire, and sends nothing.
@@ -104,18 +119,22 @@ impl Walk<'_> {
     // Gives the processors from the next one on their turns until one takes a step, and says which one did.
     // Where none did, the turn is that of processor 0.
     fn sweep_on(&mut self) -> Option<ProcId>
-        requires { self.old.next ≤ proc_count self.old.machine.set.topo }
+        requires within { self.old.next ≤ proc_count self.old.machine.set.topo }
+        requires passing { PassesStopped self.old.machine.set self.old.machine.state self.old.passing.ends }
         ensures set { self.new.machine.set ≡ self.old.machine.set }
         ensures moment { self.new.moment ≡ self.old.moment }
         ensures alone { self.new.alone ≡ self.old.alone }
         ensures fired { IfSome result (λ p. HasStepped self.old self.new p.0) }
         ensures idle { result ≡ None → HasPassed self.old self.new }
     {
-        for p in self.next..self.machine.procs() {
+        let procs = self.machine.procs();
+        let mut p = self.next;
+        'turns: while p < procs {
             if self.machine.step(ProcId(p)) {
                 self.next = p + 1;
                 return Some(ProcId(p));
             }
+            p = self.passing.first(p + 1);
         }
         self.next = 0;
         None
@@ -426,6 +445,7 @@ impl Walk<'_> {
         ensures under_way { IsUnderWay self.new }
         ensures led { stop_after self.old.machine.set self.old.moment proc.0 aim ≡ led result self.new.moment }
     {
+        self.pass_stopped();
         'steps: loop {
             let before = self.sight(proc, aim);
             let Some(stepped) = self.advance_to_sight(u64::MAX, proc, aim) else {
@@ -451,6 +471,7 @@ impl Walk<'_> {
         ensures within { IfSome result (λ n. n ≤ moment) }
         ensures moment { self.new.moment ≡ moment }
     {
+        self.pass_stopped();
         let mut latest = None;
         'steps: while self.moment < moment {
             let before = self.sight(proc, aim);
@@ -477,6 +498,7 @@ impl Walk<'_> {
         ensures under_way { IsUnderWay self.new }
         ensures rests { result ≡ false → self.new.moment ≡ length (serial self.old.machine.set) }
     {
+        self.pass_stopped();
         let moment = self.moment.saturating_add(steps);
         'steps: while self.moment < moment {
             if !self.advance_up_to(moment) {

@@ -13,4 +13,4 @@ overflow_add-self c =
 pub returns-clause-gone : goal.returns-clause-gone
 returns-clause-gone c = λ done at.
     let gone = c.in_ok-stepped.ensures.gone done at in
-    record { at = record { place = gone.at.place; alone = gone.at.alone }; ready = gone.ready; stepped = gone.stepped }
+    record { at = record { place = gone.at.place; passing = gone.at.passing; alone = gone.at.alone }; ready = gone.ready; stepped = gone.stepped }

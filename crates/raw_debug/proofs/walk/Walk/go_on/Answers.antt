@@ -2,6 +2,9 @@ use Rattle.std.proofs.Common.{length, ap, ◌∙◌, arith}
 use Rattle.raw_model.specs.Serial.{serial}
 use Rattle.raw_debug.proofs.walk.Walk.go_on.Goals as goal
 
+pub steps-init : goal.steps-init
+steps-init c = record { same = c.pass_stopped.ensures.set; under_way = c.pass_stopped.ensures.under_way }
+
 pub steps-smaller : goal.steps-smaller
 steps-smaller c = let gone = c.advance_up_to.ensures.gone c.if-not-advance_up_to.false in omega (arith, gone.later, c.steps-test.true)
 

@@ -26,6 +26,16 @@ returns-then-is_met-clause-led c =
     stops_here c.args.self.now.machine.set c.args.self.now.moment p aim c.steps.self new c.steps.invariant.same _ c.in-Some.ensures.gone q c.in-Some.ensures.seen
     c.steps.invariant met
 
+pub steps-init : goal.steps-init
+steps-init c =
+    let stays = c.pass_stopped.ensures in
+    record {
+      same = stays.set;
+      under_way = stays.under_way;
+      later = omega (arith, stays.moment);
+      none = λ j low high. absurd (omega (arith, low, high, stays.moment));
+    }
+
 pub steps-smaller : goal.steps-smaller
 steps-smaller c =
     let gone = c.in-Some.ensures.gone in

@@ -1,15 +1,21 @@
-use Rattle.std.proofs.Common.{◌≡◌, ◌≤◌, length, refl, ap, subst, ◌∙◌, arith}
+use Rattle.std.proofs.Common.{◌≡◌, ◌≤◌, length, None, ap, subst, ◌∙◌, arith}
 use Rattle.std.specs.Prelude.{◌&&◌, ◌==◌, IfSome}
 use Rattle.raw_model.specs.Serial.{serial}
 use Rattle.raw_debug.specs.Stops.{shows, last_up_to}
-use Rattle.raw_debug.proofs.Seen.{looks_here, looks_on}
+use Rattle.raw_debug.proofs.Seen.{Looks, looks_here, looks_on}
 use Rattle.raw_debug.proofs.walk.Walk.latest_up_to.Goals as goal
 
 pub steps-init : goal.steps-init
-steps-init c = record {
-  look = looks_here c.args.self.now.machine.set c.args.proc.0 c.args.aim c.args.self.now refl c.requires.under_way;
-  upto = c.requires.later;
-}
+steps-init c =
+    let of = c.args.self.now.machine.set in
+    let p = c.args.proc.0 in
+    let aim = c.args.aim in
+    let new = c.pass_stopped.new.self in
+    let stays = c.pass_stopped.ensures in
+    record {
+      look = subst (λ m. Looks of m p aim new None) stays.moment (looks_here of p aim new stays.set stays.under_way);
+      upto = omega (arith, c.requires.later, stays.moment);
+    }
 
 pub steps-smaller : goal.steps-smaller
 steps-smaller c = omega (arith, c.in-Some.ensures.gone.later, c.steps-test.true)

@@ -10,5 +10,5 @@ returns-clause-gone c = λ done at.
     let last : old.next ≡ old.next - 1 + 1 = omega (arith, none.some) in
     let there : old.next - 1 < proc_count old.machine.set.topo = omega (arith, at.place.within, none.some) in
     let fired : c.step.result ≡ true = c.if-not-step.false in
-    goes_alone old (record old { machine = c.step.new.self; alone = c.is_within-within.result }) c.step.ensures.set refl (old.next - 1) last none
+    goes_alone old (record old { machine = c.step.new.self; alone = c.is_within-within.result }) c.step.ensures.set refl refl (old.next - 1) last none
     (c.law_wired.ensures.sends_once old.machine.set) there (sym c.step.ensures.enabled ∙ fired) (c.step.ensures.step fired) c.is_within-within.ensures done at

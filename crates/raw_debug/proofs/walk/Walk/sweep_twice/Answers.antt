@@ -4,20 +4,21 @@ use Rattle.raw_serial.specs.Within.{IsWithin}
 use Rattle.raw_debug.specs.Walking.{NoneElse, HasStepped}
 use Rattle.raw_debug.proofs.Walks.{stepped_on, stepped_later, rests_later}
 use Rattle.raw_debug.proofs.Alone.{alone_again}
+use Rattle.raw_debug.proofs.Standing.{passes_passed}
 use Rattle.raw_debug.proofs.walk.Walk.sweep_twice.Goals as goal
 use Rattle.raw_debug.proofs.walk.Walk.sweep_twice.Goals.{then-within, else-within}
 
 pub returns-in-Some-clause-gone : goal.returns-in-Some-clause-gone
 returns-in-Some-clause-gone c = λ done at.
     let gone = stepped_on (record c.args.self.now { alone = false }) c.sweep_on.new.self c.sweep_on.ensures.set c.in-Some.stepped.0
-    c.in-Some.ensures.fired c.sweep_on.ensures.alone done (record { place = at.place; alone = λ on. absurd (cc on) }) in
+    c.in-Some.ensures.fired c.sweep_on.ensures.alone done (record { place = at.place; passing = at.passing; alone = λ on. absurd (cc on) }) in
     record { at = gone.at; ready = gone.ready; stepped = gone.stepped }
 
 pub returns-in_err-stepped-clause-rests : goal.returns-in_err-stepped-clause-rests
 returns-in_err-stepped-clause-rests c = λ e done at.
     rests_later (record c.args.self.now { alone = false }) c.sweep_on.new.self c.sweep_on-2.new.self c.sweep_on.ensures.set c.sweep_on-2.ensures.set
     (c.sweep_on.ensures.idle c.in_default.is) (c.sweep_on-2.ensures.idle c.in_err-stepped.was) (c.sweep_on-2.ensures.alone ∙ c.sweep_on.ensures.alone)
-    c.set-set.ensures.fits done (record { place = at.place; alone = λ on. absurd (cc on) })
+    c.set-set.ensures.fits done (record { place = at.place; passing = at.passing; alone = λ on. absurd (cc on) })
 
 pub returns-clause-gone : goal.returns-clause-gone
 returns-clause-gone c = λ done at.
@@ -34,6 +35,7 @@ returns-clause-gone c = λ done at.
       ready = fired.ready;
       stepped = fired.stepped;
       next = fired.next;
+      passing = fired.passing;
     } in
     let first = c.sweep_on.ensures.set in
     let second = c.sweep_on-2.ensures.set in
@@ -45,5 +47,13 @@ returns-clause-gone c = λ done at.
           (subst (IsWithin mid.machine.set mid.machine.state) place (c.is_within_before-within.ensures w.if-within.true))
       | else-within w ↦ λ on. absurd (cc (sym w.self-is ∙ on))
     ] in
-    let gone = stepped_later old mid new first second passed p by alone done (record { place = at.place; alone = λ on. absurd (cc on) }) in
+    let gone = stepped_later old mid new first second passed p by alone done (record { place = at.place; passing = at.passing; alone = λ on. absurd (cc on) }) in
     record { at = gone.at; ready = gone.ready; stepped = gone.stepped }
+
+pub sweep_on-requires-clause-passing : goal.sweep_on-requires-clause-passing
+sweep_on-requires-clause-passing c = c.requires.1.at.passing
+
+pub sweep_on-requires-2-clause-passing : goal.sweep_on-requires-2-clause-passing
+sweep_on-requires-2-clause-passing c =
+    passes_passed (record c.args.self.now { alone = false }) c.sweep_on.new.self c.sweep_on.ensures.set c.requires.1.at.passing
+    (c.sweep_on.ensures.idle c.in_default.is)
