@@ -18,7 +18,7 @@ returns c =
     let whole : Topology → List (List (List ℕ)) → List ProgramSection → List ℕ = λ topo lines sections. tell Tile topo lines sections ++ tell Switch topo lines sections in
     c.in_ok-push_programs-2.ensures
     ∙ ap (λ t. t ++ tell Switch labels.topo.now (lines_in labels) labels.sections.items)
-      (c.in_ok-push_programs.ensures ∙ ap (λ t. t ++ tell Tile labels.topo.now (lines_in labels) labels.sections.items) c.new-bytes.ensures.items)
+    (c.in_ok-push_programs.ensures ∙ ap (λ t. t ++ tell Tile labels.topo.now (lines_in labels) labels.sections.items) c.new-bytes.ensures.items)
     ∙ ap (whole labels.topo.now (lines_in labels)) labels.all
     ∙ ap (λ topo. whole topo (lines_in labels) (sections_in (lines_in labels))) c.in_ok-labels.ensures.topo
     ∙ ap (λ lines. whole c.args.topo.now lines (sections_in lines)) c.in_ok-labels.ensures.lines
