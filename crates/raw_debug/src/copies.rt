@@ -13,6 +13,7 @@ use crate::walk::{Place, Walk};
 use raw_grid::ProcId;
 use raw_model::Set;
 use std::alloc::Global;
+use std::mem::swap;
 
 /// How many copies are kept at the most. A way of 2^16 steps of a processor is halved as often.
 const MAX_COPIES: usize = 16;
@@ -276,22 +277,6 @@ impl Copies<'_> {
         self.kept = left;
     }
 
-    // Keeps a copy of the machine where it stands, where copies are kept and the last one stands before it.
-    fn keep_here(&mut self, walk: &Walk<'_>)
-        requires under_way { IsUnderWay walk.now }
-        requires copies { AreOn walk.now.machine.set self.old.walks.items }
-        ensures { AreOn walk.now.machine.set self.new.walks.items }
-    {
-        let Some(at) = self.last_moment() else {
-            return;
-        };
-        if at >= walk.moment {
-            return;
-        }
-        self.free_one();
-        self.keep(walk);
-    }
-
     /// Takes the machine to the end of the serial order, and keeps copies on the way, at like distances. Where none is free,
     /// each other one is given up, and the distance is doubled.
     pub(crate) fn go_to_rest(&mut self, walk: &mut Walk<'_>)
@@ -399,11 +384,45 @@ impl Copies<'_> {
         walk.restart();
         walk.latest_up_to(moment, proc, aim)
     }
+}
+
+impl<'s> Copies<'s> {
+    // Keeps the machine itself, where a place is free, and takes the machine that stands there in its stead.
+    fn exchange(&mut self, walk: &mut Walk<'s>)
+        requires under_way { IsUnderWay walk.old }
+        requires copies { AreOn walk.old.machine.set self.old.walks.items }
+        ensures set { walk.new.machine.set ≡ walk.old.machine.set }
+        ensures under_way { IsUnderWay walk.new }
+        ensures copies { AreOn walk.new.machine.set self.new.walks.items }
+    {
+        if self.kept < self.walks.len() {
+            swap(walk, &mut self.walks[self.kept]);
+            self.kept += 1;
+        }
+    }
+
+    // The same, where copies are kept and the last one stands before the machine. The first one is given up where none is free.
+    fn keep_here(&mut self, walk: &mut Walk<'s>)
+        requires under_way { IsUnderWay walk.old }
+        requires copies { AreOn walk.old.machine.set self.old.walks.items }
+        ensures set { walk.new.machine.set ≡ walk.old.machine.set }
+        ensures under_way { IsUnderWay walk.new }
+        ensures copies { AreOn walk.new.machine.set self.new.walks.items }
+    {
+        let Some(at) = self.last_moment() else {
+            return;
+        };
+        if at >= walk.moment {
+            return;
+        }
+        self.free_one();
+        self.exchange(walk);
+    }
 
     /// Looks for the latest step of the way so far that does what is aimed at, from the last copy on, then from the one
-    /// before it up to that, and so on. The machine ends where it looked last. Where copies are kept, one is kept of where it
-    /// stood, to which it goes back where there is no such step.
-    pub(crate) fn latest(&mut self, walk: &mut Walk<'_>, proc: ProcId, aim: Aim) -> Option<u64>
+    /// before it up to that, and so on. The machine ends where it looked last. Where copies are kept, it is kept itself
+    /// where it stood, to go back there where there is no such step.
+    pub(crate) fn latest(&mut self, walk: &mut Walk<'s>, proc: ProcId, aim: Aim) -> Option<u64>
         requires there { proc.0 < proc_count walk.old.machine.set.topo }
         requires possible { IsPossibleAim walk.old.machine.set proc.0 aim }
         requires under_way { IsUnderWay walk.old }
@@ -415,8 +434,8 @@ impl Copies<'_> {
         ensures latest { last_up_to walk.old.machine.set walk.old.moment proc.0 aim ≡ result }
         ensures within { IfSome result (λ n. n ≤ walk.old.moment) }
     {
-        self.keep_here(walk);
         let mut high = walk.moment;
+        self.keep_here(walk);
         let mut left = self.kept;
         'copies: while left > 0 {
             left -= 1;

@@ -141,6 +141,7 @@ impl Walk<'_> {
     }
 
     // Gives the processors their turns until one takes a step, in this sweep or the next one, and says which one did.
+    #[inline(always)]
     fn sweep_twice(&mut self) -> Option<ProcId>
         requires { IsUnderWay self.old }
         ensures set { self.new.machine.set ≡ self.old.machine.set }
