@@ -130,7 +130,8 @@ pub struct Begun {
     pub widths: Widths,
 }
 
-/// The machine of a set that begins at a cut and sees so many rows. The set gets other ports and another limit.
+/// The machine of a set that begins at a cut and sees so many rows. None where no such machine stands at it. The set gets
+/// other ports and another limit.
 pub fn begin_seeing(
     alloc: Global,
     set: &mut Set,

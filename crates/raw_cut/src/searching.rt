@@ -201,9 +201,14 @@ fn proofs_in(
         return Ok(Vec::new(alloc));
     };
     let begins = begin_seeing(alloc, set, stream, limit, &nodes, &start, many)?;
-    let Some(Begun {
-        mut machine, rows, ..
-    }) = begins else {
+    let Some(
+        Begun {
+            mut machine,
+            rows,
+            ..
+        },
+    ) = begins
+    else {
         return Ok(Vec::new(alloc));
     };
     let Some(run) = values_of(alloc, &mut machine.table, stream, &nodes, &rows)? else {

@@ -5,7 +5,6 @@ use Rattle.raw_model.specs.Program.{TileProgram}
 use Rattle.raw_codegen.specs.Script.{Part, Gives}
 use Rattle.raw_flow.specs.declared.limits.TheConstants.{MAX_NODES}
 use Rattle.raw_flow.specs.Flows.{Dataflow}
-
 use Rattle.raw_flow.specs.Places.{Holding, AreMarks}
 use Rattle.raw_flow.specs.Ports.{FlowPorts, ArePorts}
 use Rattle.raw_flow.specs.Compiled.{tiles_in}

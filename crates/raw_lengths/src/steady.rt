@@ -8,9 +8,7 @@ ghost use Rattle.raw_lengths.specs.Proofs.{IsSteadySeen};
 
 use crate::looking::places_of;
 use crate::noting::go_noting;
-use raw_cut::{
-    Begun, Cut, arrives, begin_seeing, numbers_from, open_inputs, place_all, widths_of,
-};
+use raw_cut::{Begun, Cut, arrives, begin_seeing, numbers_from, open_inputs, place_all, widths_of};
 use raw_flow::Node;
 use raw_model::Set;
 use raw_stream::StreamFlow;
@@ -49,7 +47,9 @@ pub(crate) fn steady_places(
         return Ok(None);
     };
     let Begun {
-        mut machine, rows, ..
+        mut machine,
+        rows,
+        ..
     } = start;
     let ins = numbers_from(alloc, 1 + own, counters)?;
     let Some(numbers) = place_all(alloc, &mut machine.table, &ins, looks)? else {
