@@ -70,7 +70,7 @@ pub(crate) fn ask(machine: &Machine<'_>, p: ProcId) -> Turn
 }
 
 /// Whether a turn goes on: it is a step, or pays a stall turn.
-pub(crate) fn goes(turn: Turn) -> bool
+pub fn goes(turn: Turn) -> bool
     ensures { result ≡ goes turn }
 {
     match turn {

@@ -14,7 +14,7 @@ mod tally;
 mod values;
 
 pub use account::Account;
-pub use cycle::{ask_all, step_cycle};
+pub use cycle::{ask_all, goes, step_cycle};
 pub use laws::law_clock;
 pub use running::{Cycles, run};
 pub use tally::{Spent, Tally};

@@ -11,4 +11,5 @@ mod parts;
 mod waits;
 mod writing;
 
+pub use lines::cycles_line;
 pub use writing::{write_cycles, write_spending, write_waiting};

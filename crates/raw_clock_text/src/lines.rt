@@ -19,7 +19,7 @@ fn push_named(line: &mut Line, name: &[u8], number: u64)
 
 /// The line of the number of cycles, and of the steps of tiles and switches.
 #[tactic(auto, unfolding(crate::specs::Lines::cycles_line))]
-pub(crate) fn cycles_line(cycles: u64, steps: u64) -> Line
+pub fn cycles_line(cycles: u64, steps: u64) -> Line
     ensures { result ≡ cycles_line cycles steps }
 {
     let mut line = Line::new();

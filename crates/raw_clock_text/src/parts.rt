@@ -13,6 +13,7 @@ use crate::lines::{cycles_line, passed_line, port_line, switch_line, tile_line};
 use raw_clock::Spent;
 use raw_grid::{PortPlace, ProcId, WireId};
 use raw_io::{Failed, Sink};
+use raw_report::port_number;
 use raw_serial::Machine;
 use raw_state_text::put_line;
 
@@ -86,16 +87,6 @@ pub(crate) fn put_switches<K: Sink>(run: &CountedRun<'_, '_>, out: &mut K) -> Re
         put_switch(run, t, out)?;
     }
     Ok(())
-}
-
-// The processor that is a port, by its number in the list of ports: ports are the last processors.
-fn port_number(m: &Machine<'_>, i: u32) -> ProcId
-    requires { i < length m.now.set.topo.places }
-    ensures value { result.0 ≡ 2 * tile_count m.now.set.topo + i }
-    ensures there { result.0 < proc_count m.now.set.topo }
-{
-    let topo = &m.set().topo;
-    ProcId(topo.procs() - topo.ports() + i)
 }
 
 // How a port spent the cycles, by its number in the list of ports.

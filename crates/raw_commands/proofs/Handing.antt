@@ -8,7 +8,7 @@ use Rattle.raw_io.specs.Sights.{Sight}
 use Rattle.raw_shell.specs.declared.failure.Failure.TheVariants.{Use, Refused, ReadFault, WriteFault, Memory, TooLong}
 use Rattle.raw_shell.specs.Seen.{SourceSeen, SinkSeen, Untouched}
 use Rattle.raw_shell.specs.Gathering.{with_gathered, gathering, HoldsNothing, Tells}
-use Rattle.raw_shell.proofs.Gathering.{keeps_all, all_behind, front_behind, still_behind, rose_before}
+use Rattle.raw_shell.proofs.Gathering.{keeps_all, front_behind, still_behind, rose_before}
 use Rattle.raw_command_line.specs.declared.words.Command.{Command}
 use Rattle.raw_command_line.specs.declared.words.Command.TheVariants.{Alone, Reads}
 use Rattle.raw_inputs.specs.declared.flaw.InputFlaw.TheVariants as flaw
@@ -67,26 +67,6 @@ module _ (words : Option Command) (source : SourceSeen) (start new : Sight) (emp
 
   -- ---- all was handed on
   module _ (mid : Sight) (keeps : Keeps mid.bytes (with_gathered new.bytes [])) (later : mid.faults ≤ new.faults) where
-    pub all_handed : (answer : Answer) → has_put answer ≡ true → Answered words source (record { old = gathering start []; new = mid }) answer
-        → Answered words source Behind answer
-    all_handed (Ok ending) put is =
-        obeyed_there words source (record { old = gathering start []; new = mid }) Behind (Ok ending) (Ok ending) (λ e. absurd (cc e)) (λ cause. cause)
-        (λ command input obeyed. record {
-          output = obeyed.output;
-          owed = obeyed.owed;
-          put = all_behind start.bytes mid.bytes new.bytes obeyed.output obeyed.put keeps;
-          counted = omega (arith, obeyed.counted, later);
-        }) is
-    all_handed (Err (Refused (flaw.PastEnd line))) put is =
-        obeyed_there words source (record { old = gathering start []; new = mid }) Behind (Err (Refused (flaw.PastEnd line))) (Err (Refused (flaw.PastEnd line)))
-        (λ e. absurd (cc e)) (λ cause. cause)
-        (λ command input obeyed. record {
-          output = obeyed.output;
-          past = obeyed.past;
-          put = all_behind start.bytes mid.bytes new.bytes obeyed.output obeyed.put keeps;
-          counted = omega (arith, obeyed.counted, later);
-        }) is
-    all_handed (Err _) put is = absurd (cc put)
 
   -- ---- that failed
   module _ (mid : Sight) (gs : List ℕ) (keeps : Keeps mid.bytes (with_gathered new.bytes gs)) (some : 0 < length gs) (rose : Rose mid.faults new.faults) where

@@ -1,15 +1,14 @@
 -- The parts of a proof by rows, each found of a set that got other ports and another limit before.
-use Rattle.std.proofs.Common.{◌≡◌, ℕ, ◌+◌, List, [], length, sym, ap, ◌∙◌, subst, arith}
+use Rattle.std.proofs.Common.{◌≡◌, ℕ, List, [], length, ap, ◌∙◌, subst, arith}
 use Rattle.std.specs.Prelude.{replicate}
-use Rattle.raw_grid.specs.Topology.{tile_count}
 use Rattle.raw_model.specs.Program.{ProgramSet}
 use Rattle.raw_flow.specs.declared.node.Node.{Node}
 use Rattle.raw_flow.specs.declared.node.Node.TheVariants.{Input, Const}
 use Rattle.raw_flow.specs.Flows.{AreNodes}
 use Rattle.raw_stream.specs.Streams.{Stream, first_words}
 use Rattle.raw_row_terms.specs.RowTerms.{AreWordNodes}
-use Rattle.raw_term.specs.TermMachine.{TermState, term_start}
-use Rattle.raw_rows.specs.Kernels.{Cut, Leads, HasDue, passed, known, unknown, start_cut}
+use Rattle.raw_term.specs.TermMachine.{term_start}
+use Rattle.raw_rows.specs.Kernels.{Cut, Leads, known, unknown, start_cut}
 use Rattle.raw_prove.specs.declared.machine.Machine.{Machine}
 use Rattle.raw_prove.specs.declared.unit.Unit.{Unit}
 use Rattle.raw_prove.specs.declared.unit.Unit.TheVariants as a
@@ -19,7 +18,6 @@ use Rattle.raw_cut.specs.Kept.{IsUnitWith, IsKeptWith, IsKept}
 use Rattle.raw_cut.specs.Parts.{ports_with, with_ports, IsSameBut, standing}
 use Rattle.raw_cut.proofs.Same.{leads_same}
 use Rattle.raw_cut.proofs.Starting.{start_is}
-use Rattle.raw_cut.proofs.Rooms.{wide_kept}
 
 -- the words of constants are words
 pub words_of_nodes : (nodes : List Node) → AreNodes nodes → AreWordNodes nodes
@@ -46,18 +44,6 @@ roomy_from set seen roomy s limit spare rows same is =
     is
     ∙ ap (λ (g : ProgramSet). with_ports g limit (ports_with g.topo s (length seen.ports) rows spare)) same.same
     ∙ ap (λ (n : ℕ). with_ports set limit (ports_with set.topo s n rows spare)) same.each
-
--- a machine of the set with more places
-module _ (set seen roomy : ProgramSet) (s : Stream) (limit : ℕ) (rows : List (List ℕ)) (seen_is : seen ≡ with_ports set limit (ports_with set.topo s (length set.ports) rows 0))
-    (roomy_is : roomy ≡ with_ports set (limit + 1) (ports_with set.topo s (length set.ports) rows 1)) where
-  pub kept_roomy : (m : Machine) → IsKeptWith seen 1 m → IsKept roomy m
-  kept_roomy m kept = subst (λ (g : ProgramSet). IsKept g m) (sym roomy_is) (wide_kept set s limit rows m (subst (λ (g : ProgramSet). IsKeptWith g 1 m) seen_is kept))
-
-  pub due_in_set : (carried : List Node) (lacks : List ℕ) (old new : TermState) → new ≡ old → HasDue s (tile_count roomy.topo) (passed s carried new rows).values lacks new.state
-      → HasDue s (tile_count set.topo) (passed s carried old rows).values lacks old.state
-  due_in_set carried lacks old new same due =
-      subst (λ (t : TermState). HasDue s (tile_count set.topo) (passed s carried t rows).values lacks t.state) same
-      (subst (λ (g : ProgramSet). HasDue s (tile_count g.topo) (passed s carried new rows).values lacks new.state) roomy_is due)
 
 -- the start
 pub start_from : (set seen : ProgramSet) (s : Stream) (limit : ℕ) (m : Machine) → seen ≡ with_ports set limit (ports_with set.topo s (length set.ports) [] 0) → IsOpened seen m

@@ -194,7 +194,7 @@ places_less set s many few less places = record {
 }
 
 -- a port that a stream has not is due nothing
-none_due : (s : Stream) (q : ℕ) → AreNamed s → length s.sinks ≤ q → length (due_at s q) ≡ 0
+pub none_due : (s : Stream) (q : ℕ) → AreNamed s → length s.sinks ≤ q → length (due_at s q) ≡ 0
 none_due s q named past = ap length (none s.outs named.outs) where
   none : (outs : List StreamOut) → All (IsOut (length s.sinks) (length s.nodes)) outs → filter_map (due_of q) outs ≡ []
   none [] all = refl

@@ -10,12 +10,9 @@ use Rattle.raw_stream.specs.Streams.{Stream}
 use Rattle.raw_term.specs.TermMachine.{TermState}
 use Rattle.raw_row_terms.specs.RowTerms.{RowTerms}
 use Rattle.raw_rows.specs.Noted.{noted_at, along_noting}
-use Rattle.raw_rows.specs.Kernels.{run_ports, run_set, roomy_port, roomy_set, Cut, IsLater, AtEach, Leads, HasDue, RestsSeeing, LiveProof, IsLiveProof, known, unknown, start_cut, begun, along, open_rows, passed, placed_cut}
+use Rattle.raw_rows.specs.Kernels.{run_ports, run_set, roomy_port, roomy_set, Cut, IsLater, AtEach, Leads, LeadsNoting, HasDue, RestsSeeing, LiveProof, IsLiveProof, known, unknown, start_cut, begun, along, open_rows, passed, placed_cut}
 use Rattle.std.proofs.lemmas.List.FromFn.{length-map-range_with_len}
 use Rattle.raw_cut.specs.Parts.{port_with, ports_with, AreFit, with_ports, IsSameBut}
-
-pub same_refl : (set : ProgramSet) → IsSameBut set set
-same_refl set = record { same = refl; each = refl }
 
 pub same_ports : (set : ProgramSet) (limit : ℕ) (ports : List PortProgram) → length ports ≡ length set.ports → IsSameBut set (with_ports set limit ports)
 same_ports set limit ports many = record { same = refl; each = many }
@@ -43,19 +40,23 @@ module _ (old new : ProgramSet) (is : IsSameBut old new) where
   pub start_same : start_cut new ≡ start_cut old
   start_same = ap start_cut is.same
 
-  pub leads_same : (s : Stream) (limit : ℕ) (carried : List Node) (from : Cut) (steps : List ℕ) (r : ℕ) (to : Cut) → Leads new s limit carried from steps r to → Leads old s limit carried from steps r to
-  leads_same s limit carried from steps r to h =
-      let rows : List (List ℕ) = open_rows s (r + to.window) in
-      let terms : RowTerms = passed s carried h.at (take r rows) in
-      let there : TermState = placed_cut terms.nodes terms.carried (drop r rows) to in
+  pub noting_same : (s : Stream) (limit : ℕ) (carried : List Node) (begins : TermState) (steps : List ℕ) (r : ℕ) (to : Cut) (m : ℕ) (terms : List ℕ)
+      → LeadsNoting new s limit carried begins steps r to m terms → LeadsNoting old s limit carried begins steps r to m terms
+  noting_same s limit carried begins steps r to m terms h =
+      let rows : List (List ℕ) = open_rows s m in
+      let passed_ : RowTerms = passed s carried h.at (take r rows) in
+      let there : TermState = placed_cut passed_.nodes passed_.carried (drop r rows) to in
       record {
         at = h.at;
-        goes = subst (λ (g : ProgramSet). along_noting g (noted_at (begun s carried (r + to.window) from) []) steps ≡ Some (noted_at h.at [])) (run_same s limit rows) h.goes;
+        goes = subst (λ (g : ProgramSet). along_noting g (noted_at begins []) steps ≡ Some (noted_at h.at terms)) (run_same s limit rows) h.goes;
         arrives = record {
-          locals = subst (λ (topo : Topology). AtEach (IsLater s (tile_count topo) (take r rows) terms.values) h.at.state.locals there.state.locals) topo_same h.arrives.locals;
+          locals = subst (λ (topo : Topology). AtEach (IsLater s (tile_count topo) (take r rows) passed_.values) h.at.state.locals there.state.locals) topo_same h.arrives.locals;
           wires = h.arrives.wires;
         };
       }
+
+  pub leads_same : (s : Stream) (limit : ℕ) (carried : List Node) (from : Cut) (steps : List ℕ) (r : ℕ) (to : Cut) → Leads new s limit carried from steps r to → Leads old s limit carried from steps r to
+  leads_same s limit carried from steps r to = noting_same s limit carried (begun s carried (r + to.window) from) steps r to (r + to.window) []
 
   pub rests_same : (s : Stream) (limit : ℕ) (carried : List Node) (from : Cut) (steps : List ℕ) (lacks : List ℕ) (m : ℕ) → RestsSeeing new s limit carried from steps lacks m → RestsSeeing old s limit carried from steps lacks m
   rests_same s limit carried from steps lacks m h = record {

@@ -1,10 +1,9 @@
 //! Machines that begin at a cut.
 ghost use Rattle.std.specs.Prelude.{◌≡◌, ◌*◌, ◌^◌, ◌<◌, ◌≤◌, true, length, map, Some, IfOk, IfSome};
 ghost use Rattle.raw_grid.specs.declared.parts.ProcKind.TheVariants as proc;
-ghost use Rattle.raw_grid.specs.Topology.{tile_count, proc_count, kind_at};
+ghost use Rattle.raw_grid.specs.Topology.{proc_count, kind_at};
 ghost use Rattle.raw_model.specs.Program.{IsSet};
 ghost use Rattle.raw_model.specs.Local.{Tile, Switch, Source, Sink};
-ghost use Rattle.raw_model.specs.Machine.{tile_code, switch_code};
 ghost use Rattle.raw_stream.specs.Streams.{valued};
 ghost use Rattle.raw_rows.specs.Kernels.{renumbered, cut_with};
 ghost use Rattle.raw_prove.specs.Units.{local_of, state_of, IsTile, IsSwitch};
@@ -17,13 +16,11 @@ use raw_grid::{ProcId, ProcKind};
 use raw_model::limits::MEMORY_WORDS;
 use raw_model::{Mark, Set};
 use raw_processor::{PortState, SwitchUnit, capacity_of, switch_steps, tile_steps};
-use raw_prove::{Machine, SourceUnit, TileUnit, Unit, open_ends};
+use raw_prove::{Machine, SourceUnit, TileUnit, Unit, open_ends, switch_program, tile_program};
 use raw_serial::Wires;
 use raw_switch::SwitchState;
-use raw_switch_isa::SwitchIns;
 use raw_term::{TermTable, TermTile};
 use raw_tile::{TileMemory, TileState};
-use raw_tile_isa::TileIns;
 use std::alloc::{AllocError, Global};
 
 // Whether a processor that goes on does so inside its program.
@@ -34,25 +31,6 @@ fn is_inside(mark: Mark, pc: u32, size: usize) -> bool
         Mark::Going => (pc as usize) < size,
         _ => true,
     }
-}
-
-// The program of a tile.
-fn tile_program(set: &Set, p: ProcId) -> &[TileIns]
-    requires { p.0 < tile_count set.now.topo }
-    ensures { result.now ≡ tile_code set.now p.0 }
-{
-    let program = &set.tiles[p.0 as usize];
-    &program.code
-}
-
-// The program of a switch.
-fn switch_program(set: &Set, p: ProcId) -> &[SwitchIns]
-    requires behind { tile_count set.now.topo ≤ p.0 }
-    requires there { p.0 < 2 * tile_count set.now.topo }
-    ensures { result.now ≡ switch_code set.now p.0 }
-{
-    let program = &set.tiles[p.0 as usize - set.tiles.len()];
-    &program.switch
 }
 
 // A tile of a set at a cut. None where there is no such one.

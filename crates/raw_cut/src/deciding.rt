@@ -35,15 +35,19 @@ pub fn start_of(
     }
 }
 
-// Whether steps lead from the start to the cut.
-fn opens(
+/// Whether a list of steps leads from the start of a set to a cut, so many rows later. The set gets other ports and another
+/// limit.
+pub fn opens(
     alloc: Global,
     set: &mut Set,
     stream: &StreamFlow,
-    proof: &LiveProof,
+    limit: u32,
+    steps: &[u32],
+    later: u32,
+    to: &Cut,
 ) -> Result<bool, AllocError>
-    ensures opens { IfOk result (λ yes. yes ≡ true → Leads set.old stream.now proof.now.first_limit
-        (known stream.now) (start_cut set.old) proof.now.opening.items proof.now.first_rows (cut_of proof.now.cut)) }
+    ensures opens { IfOk result (λ yes. yes ≡ true →
+        Leads set.old stream.now limit (known stream.now) (start_cut set.old) steps.now later (cut_of to.now)) }
     ensures same { IsSameBut set.old set.new }
 {
     let Some(start) = start_of(alloc, set, stream)? else {
@@ -51,15 +55,7 @@ fn opens(
     };
     let carried = known(alloc, &stream.nodes)?;
     leads(
-        alloc,
-        set,
-        stream,
-        proof.first_limit,
-        &carried,
-        &start,
-        &proof.opening,
-        proof.first_rows,
-        &proof.cut,
+        alloc, set, stream, limit, &carried, &start, steps, later, to,
     )
 }
 
@@ -143,7 +139,15 @@ pub fn is_live_proof(
     if !are_nodes(&proof.cut.nodes) {
         return Ok(false);
     }
-    if !opens(alloc, set, stream, proof)? {
+    if !opens(
+        alloc,
+        set,
+        stream,
+        proof.first_limit,
+        &proof.opening,
+        proof.first_rows,
+        &proof.cut,
+    )? {
         return Ok(false);
     }
     if !is_steady(alloc, set, stream, proof)? {

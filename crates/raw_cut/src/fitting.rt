@@ -121,7 +121,7 @@ fn fitting_ports(
 
 /// Makes of a set the one for a part of a run that sees these rows, in which no processor executes more than `limit`
 /// instructions, and each sink has some places more than it needs. Whether there is one; where there is none the set stays.
-pub fn see_rows(
+pub(crate) fn see_rows(
     alloc: Global,
     set: &mut Set,
     stream: &StreamFlow,

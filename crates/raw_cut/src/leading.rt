@@ -2,6 +2,7 @@
 ghost use Rattle.std.specs.Prelude.{◌≡◌, ◌+◌, ◌*◌, ◌≤◌, true, length, map, take, drop, IfOk, IfSome};
 ghost use Rattle.std.specs.List.{filter_map};
 ghost use Rattle.raw_grid.specs.Topology.{tile_count};
+ghost use Rattle.raw_model.specs.Program.{IsSet};
 ghost use Rattle.raw_flow.specs.declared.node.Node.TheVariants as node;
 ghost use Rattle.raw_stream.specs.Streams.{first_of, first_words};
 ghost use Rattle.raw_term.specs.declared.limits.TheConstants.{MAX_TERMS};
@@ -11,6 +12,7 @@ ghost use Rattle.raw_prove.specs.Units.{state_of};
 ghost use Rattle.raw_cut.specs.Cuts.{cut_of};
 ghost use Rattle.raw_cut.specs.Kept.{IsKept, IsKeptWith};
 ghost use Rattle.raw_cut.specs.Parts.{IsSameBut};
+ghost use Rattle.raw_cut.specs.Seeing.{BeginsSeeing, ComesToRest};
 
 use crate::arriving::{are_units_at, are_wires_at};
 use crate::beginning::begin;
@@ -56,7 +58,7 @@ pub fn widths_of(stream: &StreamFlow) -> Option<Widths>
 }
 
 /// How many words are carried and stand in so many rows. None where a table has no room for them.
-pub fn input_count(widths: Widths, rows: u32) -> Option<u32>
+pub(crate) fn input_count(widths: Widths, rows: u32) -> Option<u32>
     ensures value { IfSome result (λ count. count ≡ widths.carried + rows * widths.row) }
     ensures few { IfSome result (λ count. count ≤ MAX_TERMS) }
 {
@@ -84,7 +86,7 @@ pub(crate) fn carried_in(
 }
 
 /// The machine of a set that begins at a cut and sees these rows. None where no such machine stands at it.
-pub fn begun(
+pub(crate) fn begin_at(
     alloc: Global,
     set: &Set,
     stream: &StreamFlow,
@@ -118,6 +120,51 @@ pub fn begun(
         return Ok(None);
     };
     begin(alloc, set, table, &numbers, from)
+}
+
+/// A machine at a cut, with the numbers of the words of the rows that it sees, and their widths.
+#[derive(Drop)]
+pub struct Begun {
+    pub machine: Machine,
+    pub rows: Vec<Vec<u32>>,
+    pub widths: Widths,
+}
+
+/// The machine of a set that begins at a cut and sees so many rows. None where no such machine stands at it. The set gets
+/// other ports and another limit.
+pub fn begin_seeing(
+    alloc: Global,
+    set: &mut Set,
+    stream: &StreamFlow,
+    limit: u32,
+    carried: &[Node],
+    from: &Cut,
+    many: u32,
+) -> Result<Option<Begun>, AllocError>
+    ensures begins { IfOk result (λ found. IfSome found (
+        BeginsSeeing set.old stream.now limit carried.now (cut_of from.now) many set.new)) }
+    ensures kept { IfOk result (λ found. IfSome found (λ begun. IsKept set.new begun.machine)) }
+    ensures valid { IfOk result (λ found. IfSome found (λ begun. IsSet set.new)) }
+    ensures same { IsSameBut set.old set.new }
+{
+    let Some(widths) = widths_of(stream) else {
+        return Ok(None);
+    };
+    let Some(count) = input_count(widths, many) else {
+        return Ok(None);
+    };
+    let rows = input_rows(alloc, 1 + widths.carried, widths.row, many)?;
+    if !see_rows(alloc, set, stream, limit, &rows, 0)? {
+        return Ok(None);
+    }
+    match begin_at(alloc, set, stream, widths, carried, from, &rows, count)? {
+        Some(machine) => Ok(Some(Begun {
+            machine,
+            rows,
+            widths,
+        })),
+        None => Ok(None),
+    }
 }
 
 /// Whether a machine that saw these rows stands at a cut, so many rows later.
@@ -176,7 +223,7 @@ pub fn arrives(
 }
 
 /// Whether a list of steps leads from a cut to another, so many rows later. The set gets other ports and another limit.
-pub fn leads(
+pub(crate) fn leads(
     alloc: Global,
     set: &mut Set,
     stream: &StreamFlow,
@@ -191,28 +238,67 @@ pub fn leads(
         Leads set.old stream.now limit carried.now (cut_of from.now) steps.now later (cut_of to.now)) }
     ensures same { IsSameBut set.old set.new }
 {
-    let Some(widths) = widths_of(stream) else {
-        return Ok(false);
-    };
     let Some(many) = later.checked_add(to.window) else {
         return Ok(false);
     };
-    let Some(count) = input_count(widths, many) else {
+    let Some(start) = begin_seeing(alloc, set, stream, limit, carried, from, many)? else {
         return Ok(false);
     };
-    let rows = input_rows(alloc, 1 + widths.carried, widths.row, many)?;
-    if !see_rows(alloc, set, stream, limit, &rows, 0)? {
-        return Ok(false);
-    }
-    let Some(mut machine) = begun(alloc, set, stream, widths, carried, from, &rows, count)? else {
-        return Ok(false);
-    };
+    let Begun {
+        mut machine,
+        rows,
+        widths,
+    } = start;
     if !go_along(set, &mut machine, steps)? {
         return Ok(false);
     }
     arrives(
         alloc, set, stream, widths, carried, machine, &rows, later, to,
     )
+}
+
+/// The machine with which a list of steps comes to rest from a cut that sees so many rows. None where it does not. The set
+/// gets other ports and another limit.
+pub fn come_to_rest(
+    alloc: Global,
+    set: &mut Set,
+    stream: &StreamFlow,
+    limit: u32,
+    carried: &[Node],
+    from: &Cut,
+    steps: &[u32],
+    many: u32,
+) -> Result<Option<Begun>, AllocError>
+    ensures rests { IfOk result (λ found. IfSome found (
+        ComesToRest set.old stream.now limit carried.now (cut_of from.now) steps.now many)) }
+    ensures kept { IfOk result (λ found. IfSome found (λ last. IsKept set.new last.machine)) }
+    ensures same { IsSameBut set.old set.new }
+{
+    let Some(start) = begin_seeing(alloc, set, stream, limit, carried, from, many)? else {
+        return Ok(None);
+    };
+    let Begun {
+        mut machine,
+        rows,
+        widths,
+    } = start;
+    if !go_along(set, &mut machine, steps)? {
+        return Ok(None);
+    }
+    let Some(more) = limit.checked_add(1) else {
+        return Ok(None);
+    };
+    if !see_rows(alloc, set, stream, more, &rows, 1)? {
+        return Ok(None);
+    }
+    if !is_quiet(set, &mut machine)? {
+        return Ok(None);
+    }
+    Ok(Some(Begun {
+        machine,
+        rows,
+        widths,
+    }))
 }
 
 /// Whether the sinks of a machine have what is due of all rows that it saw, but for the last words.
@@ -266,28 +352,10 @@ pub(crate) fn rests(
     let Some(widths) = widths_of(stream) else {
         return Ok(false);
     };
-    let Some(count) = input_count(widths, many) else {
-        return Ok(false);
-    };
     let carried = open_inputs(alloc, widths.carried)?;
-    let rows = input_rows(alloc, 1 + widths.carried, widths.row, many)?;
-    if !see_rows(alloc, set, stream, limit, &rows, 0)? {
-        return Ok(false);
-    }
-    let Some(mut machine) = begun(alloc, set, stream, widths, &carried, from, &rows, count)? else {
+    let Some(last) = come_to_rest(alloc, set, stream, limit, &carried, from, steps, many)? else {
         return Ok(false);
     };
-    if !go_along(set, &mut machine, steps)? {
-        return Ok(false);
-    }
-    let Some(more) = limit.checked_add(1) else {
-        return Ok(false);
-    };
-    if !see_rows(alloc, set, stream, more, &rows, 1)? {
-        return Ok(false);
-    }
-    if !is_quiet(set, &mut machine)? {
-        return Ok(false);
-    }
+    let Begun { machine, rows, .. } = last;
     has_all_due(alloc, set, stream, widths, &carried, machine, &rows, lacks)
 }

@@ -18,7 +18,7 @@ use raw_stream::StreamFlow;
 use std::alloc::{AllocError, Global};
 
 /// Whether no processor of a machine is enabled. Where one is, the machine is not used again.
-pub fn is_quiet(set: &Set, machine: &mut Machine) -> Result<bool, AllocError>
+pub(crate) fn is_quiet(set: &Set, machine: &mut Machine) -> Result<bool, AllocError>
     requires valid { IsSet set.now }
     requires kept { IsKept set.now machine.old }
     ensures quiet { IfOk result (λ yes. yes ≡ true → IsQuiet set.now (state_of machine.old).state) }

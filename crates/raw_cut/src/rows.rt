@@ -59,7 +59,7 @@ pub fn carried_count(row: &[RowNode]) -> usize
 }
 
 /// The numbers of inputs, from one on, as so many rows of so many words.
-pub fn input_rows(
+pub(crate) fn input_rows(
     alloc: Global,
     first: u32,
     width: u32,

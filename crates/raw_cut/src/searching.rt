@@ -8,13 +8,11 @@ ghost use Rattle.raw_cut.specs.Parts.{IsSameBut};
 use crate::control::{Moment, moment_of, port_widths};
 use crate::cut::Cut;
 use crate::deciding::{is_steady, start_of};
-use crate::fitting::see_rows;
-use crate::leading::{begun, carried_in, input_count, widths_of};
+use crate::leading::{Begun, begin_seeing, carried_in, widths_of};
 use crate::naming::{RowValues, cut_from};
 use crate::nodes::{known, open_inputs};
 use crate::passing::{Passed, pass_rows};
 use crate::proof::LiveProof;
-use crate::rows::input_rows;
 use crate::sweeping::{MOST_SWEEPS, most_by_one, run_to_rest, sweep};
 use raw_flow::Node;
 use raw_model::Set;
@@ -166,43 +164,6 @@ impl Search {
     }
 }
 
-/// A machine at a cut, and the numbers of the words of the rows that it sees.
-#[derive(Drop)]
-pub struct Begun {
-    pub machine: Machine,
-    pub rows: Vec<Vec<u32>>,
-}
-
-/// The machine of a set that begins at a cut and sees so many rows. The set gets other ports and another limit.
-pub fn begin_seeing(
-    alloc: Global,
-    set: &mut Set,
-    stream: &StreamFlow,
-    limit: u32,
-    carried: &[Node],
-    from: &Cut,
-    many: u32,
-) -> Result<Option<Begun>, AllocError>
-    ensures kept { IfOk result (λ found. IfSome found (λ begun. IsKept set.new begun.machine)) }
-    ensures valid { IfOk result (λ found. IfSome found (λ begun. IsSet set.new)) }
-    ensures same { IsSameBut set.old set.new }
-{
-    let Some(widths) = widths_of(stream) else {
-        return Ok(None);
-    };
-    let Some(count) = input_count(widths, many) else {
-        return Ok(None);
-    };
-    let rows = input_rows(alloc, 1 + widths.carried, widths.row, many)?;
-    if !see_rows(alloc, set, stream, limit, &rows, 0)? {
-        return Ok(None);
-    }
-    match begun(alloc, set, stream, widths, carried, from, &rows, count)? {
-        Some(machine) => Ok(Some(Begun { machine, rows })),
-        None => Ok(None),
-    }
-}
-
 /// The terms of the rows that a run sees, from what is carried into the first on.
 pub fn values_of(
     alloc: Global,
@@ -240,7 +201,14 @@ fn proofs_in(
         return Ok(Vec::new(alloc));
     };
     let begins = begin_seeing(alloc, set, stream, limit, &nodes, &start, many)?;
-    let Some(Begun { mut machine, rows }) = begins else {
+    let Some(
+        Begun {
+            mut machine,
+            rows,
+            ..
+        },
+    ) = begins
+    else {
         return Ok(Vec::new(alloc));
     };
     let Some(run) = values_of(alloc, &mut machine.table, stream, &nodes, &rows)? else {

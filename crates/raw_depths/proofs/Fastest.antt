@@ -11,7 +11,8 @@ use Rattle.raw_steady.specs.Count.{cycle_count}
 use Rattle.raw_steady.specs.Steady.{NoneBlocked}
 use Rattle.raw_depths.specs.Text.{cycles_at, is_fastest, fastest_from}
 use Rattle.raw_depths.specs.Found.{IsFastestTo, AreItsCycles}
-use Rattle.raw_depths.proofs.Reports.{all_in, each_in}
+use Rattle.raw_steady.proofs.Number.{each_in}
+use Rattle.raw_depths.proofs.Reports.{all_in}
 
 pub fastest_from_is : (set : ProgramSet) (d : ℕ) → IsFastestTo set 7 d → d ≡ fastest_from set
 unfolding fastest_from

@@ -7,6 +7,7 @@ use Rattle.raw_model.specs.Program.{ProgramSet}
 use Rattle.raw_depth.proofs.Finding.{find_is}
 use Rattle.raw_depths.specs.Text.{report_at, is_same_text, is_same_from, same_from}
 use Rattle.raw_depths.specs.Found.{IsSameTo}
+use Rattle.raw_steady.proofs.Number.{each_in}
 
 pub text_is : (xs ys : List ℕ) → is_same_text xs ys ≡ true → xs ≡ ys
 text_is [] [] e = refl
@@ -28,15 +29,6 @@ all_in f a zero each = refl
 all_in f a (suc n) each =
     and_from (f a) (list_all f (range_with_len (a + 1) n)) (each a (omega arith) (omega arith))
     (all_in f (a + 1) n (λ k low high. each k (omega arith) (omega arith)))
-
-pub each_in : (f : ℕ → Bool) (a n : ℕ) → list_all f (range_with_len a n) ≡ true → (k : ℕ) → a ≤ k → k < a + n → f k ≡ true
-each_in f a zero all k low high = absurd (omega arith)
-each_in f a (suc n) all k low high =
-    let parts = and_parts (f a) (list_all f (range_with_len (a + 1) n)) all in
-    ⊎_elim
-    (λ (same : a ≡ k). ap f (sym same) ∙ parts.0)
-    (λ (ne : a ≡ k → ⊥). each_in f (a + 1) n parts.1 k (omega arith) (omega arith))
-    (cases_eq a k)
 
 -- the first depth, where nothing is before
 pub same_first : (set : ProgramSet) → IsSameTo set 1 1

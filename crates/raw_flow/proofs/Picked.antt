@@ -42,14 +42,6 @@ either_none : {X : Type 0} (b : Bool) → ◌≡◌ {A = List X} (cond b [] []) 
 either_none true = refl
 either_none false = refl
 
-all_or_none : {X : Type 0} (b : Bool) (xs : List X) → length (cond b xs []) ≤ length xs
-all_or_none true xs = omega arith
-all_or_none false xs = omega arith
-
-first_or_none : {X : Type 0} (b : Bool) (x : X) (ys xs : List X) → length ys ≤ length xs → length (cond b (x ∷ ys) ys) ≤ length (x ∷ xs)
-first_or_none true x ys xs h = omega (arith, h)
-first_or_none false x ys xs h = omega (arith, h)
-
 all_of : {X : Type 0} (P : X → Type 0) (b : Bool) (xs : List X) → All P xs → All P (cond b xs [])
 all_of P true xs all = all
 all_of P false xs all = All-nil P
@@ -104,11 +96,6 @@ module _ {X : Type 0} (q : ℕ) where
 
         other : (slice_index ports i ≡ q → ⊥) → picked q (drop i ports) (drop i xs) ≡ own_of ++ rest
         other ne = picked_other ne ∙ ap (λ b. cond b (x ∷ []) [] ++ rest) (sym (ne_eqb (slice_index ports i) q ne))
-
-  pub picked_few : (ports : List ℕ) (xs : List X) → length (picked q ports xs) ≤ length xs
-  picked_few [] xs = all_or_none (eqb q 0) xs
-  picked_few (p ∷ ports) [] = omega arith
-  picked_few (p ∷ ports) (x ∷ xs) = first_or_none (eqb p q) x (picked q ports xs) xs (picked_few ports xs)
 
   pub picked_all : (P : X → Type 0) (ports : List ℕ) (xs : List X) → All P xs → All P (picked q ports xs)
   picked_all P [] xs all = all_of P (eqb q 0) xs all

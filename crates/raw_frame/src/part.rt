@@ -30,6 +30,22 @@ impl Part {
         columns.saturating_add(self.row(p).abs_diff(self.row(q)))
     }
 
+    /// The next larger part: twice the columns or the rows, whichever are fewer, as far as a grid goes.
+    pub fn larger(self, grid: Part) -> Part {
+        let Part { cols, rows } = self;
+        if rows < grid.rows && (rows <= cols || cols >= grid.cols) {
+            Part {
+                cols,
+                rows: rows.saturating_mul(2).min(grid.rows),
+            }
+        } else {
+            Part {
+                cols: cols.saturating_mul(2).min(grid.cols),
+                rows,
+            }
+        }
+    }
+
     /// The tile at a side of a tile.
     pub fn neighbour(self, tile: usize, side: Side) -> Option<usize> {
         let (x, y) = (self.column(tile), self.row(tile));

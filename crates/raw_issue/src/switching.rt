@@ -1,11 +1,10 @@
 //! What a switch does in a cycle.
-ghost use Rattle.std.specs.Prelude.{◌<◌, All};
 
 use crate::state::Issue;
 use crate::task::DIRS;
 use raw_frame::Word;
 use raw_grid::{Dir, End, Net};
-use raw_switch_isa::{SwitchIns, SwitchSource};
+use raw_switch_isa::{SwitchIns, SwitchSource, route_codes};
 use std::alloc::AllocError;
 
 /// An instruction of a switch that is being made.
@@ -18,34 +17,6 @@ struct Crossing {
     /// The inputs that have been looked at, one bit each.
     tried: u16,
     has_acted: bool,
-}
-
-// The code of a route, as the field of an instruction has it.
-fn code(routes: &[u8; 10], output: usize) -> u8
-    ensures { result < 6 }
-{
-    match routes.get(output) {
-        Some(code) if *code < 6 => *code,
-        _ => 0,
-    }
-}
-
-// All codes of routes.
-fn codes(routes: &[u8; 10]) -> [u8; 10]
-    ensures { All (λ code. code < 6) result }
-{
-    [
-        code(routes, 0),
-        code(routes, 1),
-        code(routes, 2),
-        code(routes, 3),
-        code(routes, 4),
-        code(routes, 5),
-        code(routes, 6),
-        code(routes, 7),
-        code(routes, 8),
-        code(routes, 9),
-    ]
 }
 
 impl Crossing {
@@ -77,7 +48,7 @@ impl Crossing {
             Some(input) if input < 10 => SwitchIns::move_from(0, SwitchSource::Input(input)),
             _ => SwitchIns::nop(),
         };
-        ins.with_routes(codes(&self.routes))
+        ins.with_routes(route_codes(&self.routes))
     }
 }
 

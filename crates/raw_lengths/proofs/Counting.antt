@@ -1,15 +1,10 @@
 -- Runs that note terms, step by step.
-use Rattle.std.proofs.Common.{◌≡◌, ℕ, true, cond, List, ◌∷◌, Option, Some, None, sym, ap, ◌∙◌, length, drop, get_or, ◌<◌, ◌+◌}
+use Rattle.std.proofs.Common.{◌≡◌, ℕ, true, cond, List, ◌∷◌, Some, None, sym, ap, ◌∙◌, length, drop, get_or, ◌<◌, ◌+◌}
 use Rattle.std.proofs.lemmas.List.{drop_more}
 use Rattle.std.specs.Option.{option_and_then}
 use Rattle.raw_model.specs.Program.{ProgramSet}
 use Rattle.raw_model.specs.Rest.{enabled}
-use Rattle.raw_term.specs.TermMachine.{TermState, term_step}
-use Rattle.raw_rows.specs.Noted.{NotedState, noted_at, noted_step, step_or_noted, noting_step, along_noting}
-
--- a step that the machine with terms takes notes nothing
-pub step_plain : (g : ProgramSet) (s t : TermState) (terms : List ℕ) (p : ℕ) → term_step g s p ≡ Some t → noting_step g (noted_at s terms) p ≡ Some (noted_at t terms)
-step_plain g s t terms p does = ap (λ (o : Option TermState). step_or_noted terms o (noted_step g (noted_at s terms) p)) does
+use Rattle.raw_rows.specs.Noted.{NotedState, noting_step, along_noting}
 
 -- the first of the steps
 noting_first : (g : ProgramSet) (n k : NotedState) (p : ℕ) (ps : List ℕ) → enabled g n.at.state p ≡ true → noting_step g n p ≡ Some k → along_noting g n (p ∷ ps) ≡ along_noting g k ps

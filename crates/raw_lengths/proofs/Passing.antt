@@ -1,57 +1,24 @@
 -- The parts of a proof for all rows, each found of a set that got other ports and another limit before.
-use Rattle.std.proofs.Common.{◌≡◌, ℕ, ◌+◌, ◌++◌, List, [], length, map, take, drop, Some, ap, ap₂, ◌∙◌, subst}
+use Rattle.std.proofs.Common.{◌≡◌, ℕ, ◌+◌, ◌++◌, List, [], length, map, ap₂, ◌∙◌, subst}
 use Rattle.std.specs.Prelude.{replicate, slice_index}
-use Rattle.std.specs.List.{range_with_len}
-use Rattle.raw_grid.specs.Topology.{Topology, tile_count}
 use Rattle.raw_model.specs.Program.{ProgramSet}
-use Rattle.raw_model.specs.Rest.{IsQuiet}
 use Rattle.raw_flow.specs.declared.node.Node.{Node}
 use Rattle.raw_flow.specs.declared.node.Node.TheVariants.{Input, Const}
 use Rattle.raw_stream.specs.Streams.{Stream, first_words}
-use Rattle.raw_term.specs.TermMachine.{TermState}
-use Rattle.raw_row_terms.specs.RowTerms.{RowTerms}
-use Rattle.raw_rows.specs.Noted.{noted_at, along_noting}
-use Rattle.raw_rows.specs.Kernels.{Cut, open_rows, begun, along, roomy_port, roomy_set, passed, placed_cut, IsLater, AtEach, Leads, LeadsNoting, HasDue, known, start_cut, unknown}
+use Rattle.raw_rows.specs.Kernels.{Cut, Leads, known, start_cut, unknown}
 use Rattle.raw_rows.specs.Lengths.{LengthProof, with_counters, counting, counted, counters_at, looked, kernel_start, with_looks, IsSteadyNoting, last_carried, EndsDone, IsLengthProof}
 use Rattle.raw_cut.specs.Parts.{IsSameBut}
-use Rattle.raw_cut.proofs.Same.{topo_same, run_same, start_same, leads_same}
+use Rattle.raw_cut.proofs.Same.{start_same, noting_same, leads_same, rests_same}
 use Rattle.raw_lengths.specs.Looks.{IsPlaced}
 use Rattle.raw_lengths.specs.Proofs.{IsSteadySeen, EndsSeeing, AreCounted}
 
 -- with other ports, and another limit, it is the same
-pub noting_same : (old new : ProgramSet) → IsSameBut old new → (s : Stream) (limit : ℕ) (carried : List Node) (begins : TermState) (steps : List ℕ) (r : ℕ) (to : Cut) (m : ℕ) (terms : List ℕ)
-    → LeadsNoting new s limit carried begins steps r to m terms → LeadsNoting old s limit carried begins steps r to m terms
-noting_same old new is s limit carried begins steps r to m terms h =
-    let rows : List (List ℕ) = open_rows s m in
-    let passed_ : RowTerms = passed s carried h.at (take r rows) in
-    let there : TermState = placed_cut passed_.nodes passed_.carried (drop r rows) to in
-    record {
-      at = h.at;
-      goes = subst (λ (g : ProgramSet). along_noting g (noted_at begins []) steps ≡ Some (noted_at h.at terms)) (run_same old new is s limit rows) h.goes;
-      arrives = record {
-        locals = subst (λ (topo : Topology). AtEach (IsLater s (tile_count topo) (take r rows) passed_.values) h.at.state.locals there.state.locals) (topo_same old new is) h.arrives.locals;
-        wires = h.arrives.wires;
-      };
-    }
-
-roomy_same : (old new : ProgramSet) → IsSameBut old new → (s : Stream) (limit : ℕ) (rows : List (List ℕ)) → roomy_set new s limit rows ≡ roomy_set old s limit rows
-roomy_same old new is s limit rows =
-    ap (λ (g : ProgramSet). record g { limit = limit + 1; ports = map (roomy_port s rows) (range_with_len 0 (length new.ports)) }) is.same
-    ∙ ap (λ (n : ℕ). record old { limit = limit + 1; ports = map (roomy_port s rows) (range_with_len 0 n) }) is.each
-
 pub ends_same : (old new : ProgramSet) → IsSameBut old new → (s : Stream) (limit : ℕ) (carried : List Node) (from : Cut) (steps : List ℕ) (m : ℕ)
     → EndsSeeing new s limit carried from steps m → EndsSeeing old s limit carried from steps m
-ends_same old new is s limit carried from steps m h =
-    let at : TermState = h.rests.at in
-    record {
-      rests = record {
-        at = at;
-        goes = subst (λ (g : ProgramSet). along g (begun s carried m from) steps ≡ Some at) (run_same old new is s limit (open_rows s m)) h.rests.goes;
-        quiet = subst (λ (g : ProgramSet). IsQuiet g at.state) (roomy_same old new is s limit (open_rows s m)) h.rests.quiet;
-        due = subst (λ (topo : Topology). HasDue s (tile_count topo) (passed s carried at (open_rows s m)).values [] at.state) (topo_same old new is) h.rests.due;
-      };
-      halted = h.halted;
-    }
+ends_same old new is s limit carried from steps m h = record {
+  rests = rests_same old new is s limit carried from steps [] m h.rests;
+  halted = h.halted;
+}
 
 pub steady_same : (old new : ProgramSet) → IsSameBut old new → (s : Stream) (w : LengthProof) → IsSteadyNoting new s w → IsSteadyNoting old s w
 steady_same old new is s w h = record {

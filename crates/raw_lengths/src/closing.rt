@@ -5,9 +5,7 @@ ghost use Rattle.raw_cut.specs.Parts.{IsSameBut};
 ghost use Rattle.raw_lengths.specs.Proofs.{EndsSeeing};
 
 use crate::halting::are_halted;
-use raw_cut::{
-    Cut, begun, go_along, has_all_due, input_count, input_rows, is_quiet, see_rows, widths_of,
-};
+use raw_cut::{Begun, Cut, come_to_rest, has_all_due};
 use raw_flow::Node;
 use raw_model::Set;
 use raw_stream::StreamFlow;
@@ -29,31 +27,14 @@ pub(crate) fn ends(
         EndsSeeing set.old stream.now limit carried.now (cut_of from.now) steps.now many) }
     ensures same { IsSameBut set.old set.new }
 {
-    let Some(widths) = widths_of(stream) else {
+    let Some(last) = come_to_rest(alloc, set, stream, limit, carried, from, steps, many)? else {
         return Ok(false);
     };
-    let Some(count) = input_count(widths, many) else {
-        return Ok(false);
-    };
-    let rows = input_rows(alloc, 1 + widths.carried, widths.row, many)?;
-    if !see_rows(alloc, set, stream, limit, &rows, 0)? {
-        return Ok(false);
-    }
-    let Some(mut machine) = begun(alloc, set, stream, widths, carried, from, &rows, count)? else {
-        return Ok(false);
-    };
-    if !go_along(set, &mut machine, steps)? {
-        return Ok(false);
-    }
-    let Some(more) = limit.checked_add(1) else {
-        return Ok(false);
-    };
-    if !see_rows(alloc, set, stream, more, &rows, 1)? {
-        return Ok(false);
-    }
-    if !is_quiet(set, &mut machine)? {
-        return Ok(false);
-    }
+    let Begun {
+        machine,
+        rows,
+        widths,
+    } = last;
     if !are_halted(&machine.units) {
         return Ok(false);
     }

@@ -4,7 +4,6 @@ ghost use Rattle.std.specs.List.{filter_map};
 ghost use Rattle.raw_flow.specs.declared.node.Node.TheVariants as node;
 ghost use Rattle.raw_flow.specs.Flows.{AreNodes};
 ghost use Rattle.raw_stream.specs.Streams.{Stream, IsRowNode, AreRowNodes, plain, first_of, first_words};
-ghost use Rattle.raw_rows.specs.Kernels.{Leads, start_cut, known};
 ghost use Rattle.raw_rows.specs.Lengths.{with_counters, IsLengthProof, IsSteadyNoting, EndsDone, counted};
 ghost use Rattle.raw_cut.specs.Cuts.{cut_of};
 ghost use Rattle.raw_cut.specs.Parts.{IsSameBut};
@@ -16,7 +15,7 @@ use crate::extended::with_counters;
 use crate::looking::are_some;
 use crate::proof::LengthProof;
 use crate::steady::steady_places;
-use raw_cut::{are_nodes, carried_count, known, leads, open_inputs, start_of};
+use raw_cut::{are_nodes, carried_count, open_inputs, opens};
 use raw_flow::Node;
 use raw_model::Set;
 use raw_row_terms::plain_nodes;
@@ -60,34 +59,6 @@ fn passes_all(count: u32, proof: &LengthProof) -> bool
         return false;
     };
     all == u64::from(count) && proof.cut.window <= proof.last_rows
-}
-
-// Whether steps lead from the start to the cut.
-fn opens(
-    alloc: Global,
-    set: &mut Set,
-    stream: &StreamFlow,
-    proof: &LengthProof,
-) -> Result<bool, AllocError>
-    ensures opens { IfOk result (λ yes. yes ≡ true → Leads set.old stream.now proof.now.first_limit
-        (known stream.now) (start_cut set.old) proof.now.opening.items proof.now.first_rows (cut_of proof.now.cut)) }
-    ensures same { IsSameBut set.old set.new }
-{
-    let Some(start) = start_of(alloc, set, stream)? else {
-        return Ok(false);
-    };
-    let carried = known(alloc, &stream.nodes)?;
-    leads(
-        alloc,
-        set,
-        stream,
-        proof.first_limit,
-        &carried,
-        &start,
-        &proof.opening,
-        proof.first_rows,
-        &proof.cut,
-    )
 }
 
 // What counters are behind so many kernels, each of so many rows, where they are these before the first. None where one of
@@ -254,7 +225,15 @@ pub fn is_length_proof(
     let Some(extended) = with_counters(alloc, stream, &proof.counters)? else {
         return Ok(false);
     };
-    if !opens(alloc, set, &extended, proof)? {
+    if !opens(
+        alloc,
+        set,
+        &extended,
+        proof.first_limit,
+        &proof.opening,
+        proof.first_rows,
+        &proof.cut,
+    )? {
         return Ok(false);
     }
     passes_on(alloc, set, stream, &extended, proof)

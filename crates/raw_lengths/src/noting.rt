@@ -1,10 +1,10 @@
 //! Steps of a machine with terms that branch on a term as where it is not 0.
 ghost use Rattle.std.specs.Prelude.{◌≡◌, ℕ, ◌+◌, ◌*◌, ◌<◌, ◌≤◌, ◌||◌, nat_le, None, true, false, Some, [], List, length, slice_index, IfOk, IfSome, IsSome, OnErr};
-ghost use Rattle.raw_grid.specs.Topology.{tile_count, proc_count};
+ghost use Rattle.raw_grid.specs.Topology.{proc_count};
 ghost use Rattle.raw_tile_isa.specs.Instruction.{is_network};
 ghost use Rattle.raw_model.specs.Program.{IsSet};
 ghost use Rattle.raw_model.specs.Local.{Tile, Switch};
-ghost use Rattle.raw_model.specs.Machine.{is_stopped, is_ended, tile_code, switch_code};
+ghost use Rattle.raw_model.specs.Machine.{is_stopped, switch_code};
 ghost use Rattle.raw_model.specs.TileTable.{next_instruction, following, moved};
 ghost use Rattle.raw_model.specs.SwitchTable.{next_instruction as next_switch_instruction};
 ghost use Rattle.raw_term.specs.Terms.{word_in};
@@ -20,10 +20,12 @@ use raw_flow::{FlowOp, Node};
 use raw_grid::ProcId;
 use raw_model::limits::MAX_STEPS;
 use raw_model::{Mark, Set};
-use raw_processor::{EndWires, SwitchUnit, switch_needs, switch_stopped, tile_stopped};
-use raw_prove::{Machine, TileUnit, Turn, Unit};
-use raw_serial::{Wires, unmet_at};
-use raw_switch::{SwitchState, SwitchStep};
+use raw_processor::{EndWires, SwitchUnit, switch_stopped};
+use raw_prove::{
+    Machine, TileUnit, Turn, Unit, has_stopped, route_switch, switch_program, tile_program,
+};
+use raw_serial::Wires;
+use raw_switch::SwitchState;
 use raw_switch_isa::{SwitchIns, SwitchOp};
 use raw_term::{TermRefusal, TermTable, TermTile};
 use raw_tile::TileState;
@@ -40,32 +42,6 @@ pub(crate) enum Look {
     Noted(u32),
     /// It needs more terms than a table holds. The machine is not used again.
     TooMany,
-}
-
-// The program of a tile.
-fn tile_program(set: &Set, p: ProcId) -> &[TileIns]
-    requires { p.0 < tile_count set.now.topo }
-    ensures { result.now ≡ tile_code set.now p.0 }
-{
-    let program = &set.tiles[p.0 as usize];
-    &program.code
-}
-
-// The program of a switch.
-fn switch_program(set: &Set, p: ProcId) -> &[SwitchIns]
-    requires behind { tile_count set.now.topo ≤ p.0 }
-    requires there { p.0 < 2 * tile_count set.now.topo }
-    ensures { result.now ≡ switch_code set.now p.0 }
-{
-    let program = &set.tiles[p.0 as usize - set.tiles.len()];
-    &program.switch
-}
-
-// Whether a tile takes no more steps.
-fn has_stopped(tile: &TermTile, limit: u32) -> bool
-    ensures { result ≡ (is_ended tile.now.mark || nat_le limit tile.now.count) }
-{
-    tile_stopped(&tile.state, limit)
 }
 
 // Where a branch that compares a word that is not 0 with 0 goes.
@@ -222,16 +198,10 @@ fn step_switch(
         IsLook set.now p.0 table.old (Switch unit.old.state) wires.old look table.new (Switch unit.new.state) wires.new) }
     ensures kept { IsSwitch set.now p.0 unit.new }
 {
-    let code: &[SwitchStep] = &unit.code;
-    let state = &mut unit.state;
-    let step = state.instruction(code);
-    let needs = switch_needs(code, state);
-    if let Some(_wire) = unmet_at(set, ends, needs, wires) {
+    let Some(_given) = route_switch(set, p, ends, unit, wires) else {
         return Ok(Look::Other);
-    }
-    let given = wires.take_inputs(needs.inputs, &ends.inputs);
-    wires.put_routes(step, state, &ends.outputs, &given);
-    match take_branch(switch_program(set, p), state, table) {
+    };
+    match take_branch(switch_program(set, p), &mut unit.state, table) {
         Ok(term) => Ok(Look::Noted(term)),
         Err(TermRefusal::TooMany) => Ok(Look::TooMany),
         Err(TermRefusal::Memory) => Err(AllocError),

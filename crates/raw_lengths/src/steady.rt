@@ -8,10 +8,7 @@ ghost use Rattle.raw_lengths.specs.Proofs.{IsSteadySeen};
 
 use crate::looking::places_of;
 use crate::noting::go_noting;
-use raw_cut::{
-    Cut, arrives, begun, input_count, input_rows, numbers_from, open_inputs, place_all, see_rows,
-    widths_of,
-};
+use raw_cut::{Begun, Cut, arrives, begin_seeing, numbers_from, open_inputs, place_all, widths_of};
 use raw_flow::Node;
 use raw_model::Set;
 use raw_stream::StreamFlow;
@@ -42,20 +39,18 @@ pub(crate) fn steady_places(
     let Some(many) = later.checked_add(cut.window) else {
         return Ok(None);
     };
-    let Some(count) = input_count(widths, many) else {
-        return Ok(None);
-    };
     if u64::from(own) + u64::from(counters) > u64::from(widths.carried) {
         return Ok(None);
     }
-    let rows = input_rows(alloc, 1 + widths.carried, widths.row, many)?;
-    if !see_rows(alloc, set, stream, limit, &rows, 0)? {
-        return Ok(None);
-    }
     let carried = open_inputs(alloc, widths.carried)?;
-    let Some(mut machine) = begun(alloc, set, stream, widths, &carried, cut, &rows, count)? else {
+    let Some(start) = begin_seeing(alloc, set, stream, limit, &carried, cut, many)? else {
         return Ok(None);
     };
+    let Begun {
+        mut machine,
+        rows,
+        ..
+    } = start;
     let ins = numbers_from(alloc, 1 + own, counters)?;
     let Some(numbers) = place_all(alloc, &mut machine.table, &ins, looks)? else {
         return Ok(None);

@@ -441,7 +441,7 @@ module _ {L : Type 0} (net : Network L) (cost : ℕ → List ℕ → ℕ) where
       apart false = refl
 
 -- the front of a list that has so many entries of a processor
-front_with : (p : ℕ) (h : List ℕ) (n : ℕ) → n ≤ count_of p h
+pub front_with : (p : ℕ) (h : List ℕ) (n : ℕ) → n ≤ count_of p h
     → (front : List ℕ) × (rest : List ℕ) × (front ++ rest ≡ h) × (count_of p front ≡ n)
 front_with p [] n few = ([], [], refl, omega arith)
 front_with p (x ∷ h) zero few = ([], x ∷ h, refl, refl)

@@ -9,6 +9,7 @@ use Rattle.raw_clock.specs.Clock.{clock, turn_in, is_fired, is_stalled, is_stop}
 use Rattle.raw_clock.proofs.Counting.{one_if, count_more}
 use Rattle.raw_clock.proofs.Spending.{law_spent}
 use Rattle.raw_steady.specs.Steady.{is_wait}
+use Rattle.raw_steady.proofs.Shares.{one_kind}
 use Rattle.raw_lost.specs.declared.root.RootKind.{RootKind}
 use Rattle.raw_lost.specs.declared.root.RootKind.TheVariants.{Tile, Switch, Port, Stalled, Stopped, Ring}
 use Rattle.raw_lost.specs.Lost.{are_alike, root_kind, LostAddUp}
@@ -26,13 +27,6 @@ one_kind true Stalled = refl
 one_kind true Stopped = refl
 one_kind true Ring = refl
 
--- and so is a turn
-one_turn : (t : Turn) → one_if (is_fired t) + one_if (is_stalled t) + one_if (is_stop t) + one_if (is_wait t) ≡ 1
-one_turn turn.Fired = refl
-one_turn turn.Stalled = refl
-one_turn turn.Stopped = refl
-one_turn (turn.Waits w) = refl
-
 module _ (set : ProgramSet) (p : ℕ) where
   abbrev turn_at : ℕ → Turn
   turn_at = λ k. turn_in set (clock set k) p
@@ -47,7 +41,7 @@ module _ (set : ProgramSet) (p : ℕ) where
   of_turns : (n : ℕ) → many (λ k. is_fired (turn_at k)) n + many (λ k. is_stalled (turn_at k)) n + many (λ k. is_stop (turn_at k)) n + many (λ k. is_wait (turn_at k)) n ≡ n
   of_turns zero = refl
   of_turns (suc n) =
-      let now = one_turn (turn_at (0 + n)) in
+      let now = one_kind (turn_at (0 + n)) in
       omega (
         arith,
         of_turns n,

@@ -18,7 +18,7 @@ use Rattle.raw_network.proofs.Steps.{end_of-push, lawful-push, events_of-append}
 use Rattle.raw_lockstep.specs.Lockstep.{all_enabled, cycles, after_cycles}
 use Rattle.raw_lockstep.specs.Stalls.{Paying, owes, with_stalls, unpaid, without_stalls, owes_from, touched_in, paid_in, owes_at, touched_by, paid_by, steps_in}
 use Rattle.raw_lockstep.proofs.Cycling.{filtered_alike, law_cycle_is_round, round_lawful}
-use Rattle.raw_lockstep.proofs.Stalling.{length_end, without_unpaid, untouched, unpaid_none, local_there, law_stays_wired, law_may_turn, enabled_step, law_steps_of_turns, steps_in-append}
+use Rattle.raw_lockstep.proofs.Stalling.{length_end, without_unpaid, untouched, unpaid_none, local_there, law_stays_wired, law_may_turn, enabled_step, law_steps_of_turns, steps_in-append, front_with}
 use Rattle.raw_pace.specs.Control.{Motion, motion_of, Asks, asks, asks_at, MovesAlike, SameCycles, SameTurns, SameWaits, AreAtOnce, SameStops}
 use Rattle.raw_pace.proofs.Path.{kth_end}
 
@@ -44,23 +44,6 @@ last_of (x ∷ xs) y = last_of xs y
 same_last : {A : Type 0} (xs ys : List A) (x y : A) → xs ≡ ys → xs ++ x ∷ [] ≡ ys ++ y ∷ [] → x ≡ y
 same_last xs ys x y e f =
     some_is x y (sym (last_of xs x) ∙ ap (λ zs. slice_get zs (length xs)) f ∙ ap (λ zs. slice_get (ys ++ y ∷ []) (length zs)) e ∙ last_of ys y)
-
--- the front of a list that has so many entries of a processor
-front_with : (p : ℕ) (h : List ℕ) (n : ℕ) → n ≤ count_of p h
-    → (front : List ℕ) × (rest : List ℕ) × (front ++ rest ≡ h) × (count_of p front ≡ n)
-front_with p [] n few = ([], [], refl, omega arith)
-front_with p (x ∷ h) zero few = ([], x ∷ h, refl, refl)
-front_with p (x ∷ h) (suc n) few =
-    ⊎_elim
-    (λ (same : x ≡ p).
-    let here : count_of p (x ∷ h) ≡ suc (count_of p h) = subst (λ y. count_of y (x ∷ h) ≡ suc (count_of y h)) same (count_here x h) in
-    let (front, rest, e, many) = front_with p h n (omega arith) in
-    let now : count_of p (x ∷ front) ≡ suc (count_of p front) = subst (λ y. count_of y (x ∷ front) ≡ suc (count_of y front)) same (count_here x front) in
-    (x ∷ front, rest, ap (λ xs. x ∷ xs) e, omega arith))
-    (λ (ne : x ≡ p → ⊥).
-    let (front, rest, e, many) = front_with p h (suc n) (omega (arith, count_there p x h ne)) in
-    (x ∷ front, rest, ap (λ xs. x ∷ xs) e, count_there p x front ne ∙ many))
-    (cases_eq x p)
 
 -- how many values a step sends on a wire
 length_sent : (w : ℕ) (ms : List Sent) → length (sent_on w ms) ≡ count_of w (map (λ (m : Sent). m.wire) ms)

@@ -1,24 +1,9 @@
 //! The lines of the text, each made in place from the numbers that it shows.
 ghost use Rattle.std.specs.Prelude.{◌≡◌, ◌+◌, ◌≤◌, ◌++◌, length};
-ghost use Rattle.raw_clock_text.specs.Lines.{cycles_line};
 ghost use Rattle.raw_path.specs.Text.{path_line, on_line, wait_text, from_line};
 
 use crate::stretch::{Stretch, WaitedFor};
 use raw_state_text::{LINE_SIZE, Line};
-
-/// The line of the number of cycles, and of the steps of tiles and switches.
-#[tactic(auto, unfolding(raw_clock_text::specs::Lines::cycles_line))]
-pub(crate) fn cycles_line(cycles: u64, steps: u64) -> Line
-    ensures { result ≡ cycles_line cycles steps }
-{
-    let mut line = Line::new();
-    line.push_text(b"cycles ");
-    line.push_number(cycles);
-    line.push_text(b" steps ");
-    line.push_number(steps);
-    line.push_text(b"\n");
-    line
-}
 
 /// The line of what the path is made of.
 #[tactic(auto, unfolding(crate::specs::Text::path_line))]

@@ -11,6 +11,7 @@ ghost use Rattle.raw_path.specs.Known.{IsKnown, AreKnown, AreHops, AreKept, IsRe
 
 use crate::hops::{End, Hop};
 use crate::stretch::far_end;
+use raw_clock::goes;
 use raw_grid::ProcId;
 use raw_model::Set;
 use raw_serial::{Machine, Processor, Turn};
@@ -46,16 +47,6 @@ pub(crate) fn unseen(alloc: Global, set: &Set) -> Result<Vec<Seen>, AllocError>
 {
     let seen = vec![in alloc; UNSEEN; set.topo.procs() as usize]?;
     Ok(seen)
-}
-
-/// Whether a turn goes on.
-pub(crate) fn goes(turn: Turn) -> bool
-    ensures { result ≡ goes turn }
-{
-    match turn {
-        Turn::Fired | Turn::Stalled => true,
-        Turn::Stopped | Turn::Waits { .. } => false,
-    }
 }
 
 // One for a stall turn.

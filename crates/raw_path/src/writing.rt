@@ -10,9 +10,10 @@ ghost use Rattle.raw_path.specs.Known.{IsTold, IsPath};
 ghost use Rattle.raw_path.specs.Text.{on_lines, from_lines, path_lines, path_text};
 ghost use Rattle.raw_path.specs.Path.{path_of, stalls_of};
 
-use crate::lines::{cycles_line, from_line, on_line, path_line};
+use crate::lines::{from_line, on_line, path_line};
 use crate::running::Path;
 use crate::told::Told;
+use raw_clock_text::cycles_line;
 use raw_io::{Failed, Sink};
 use raw_outcome::Outcome;
 use raw_report::put_outcome;

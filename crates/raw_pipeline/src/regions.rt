@@ -3,22 +3,6 @@ use raw_body::Site;
 use raw_frame::Part;
 use std::alloc::{AllocError, Global};
 
-// The next larger part: twice the columns or the rows, whichever are fewer, as far as the grid goes.
-fn larger(part: Part, grid: Part) -> Part {
-    let Part { cols, rows } = part;
-    if rows < grid.rows && (rows <= cols || cols >= grid.cols) {
-        Part {
-            cols,
-            rows: rows.saturating_mul(2).min(grid.rows),
-        }
-    } else {
-        Part {
-            cols: cols.saturating_mul(2).min(grid.cols),
-            rows,
-        }
-    }
-}
-
 // Where a part begins along a side of the grid, so that it has a place.
 fn start(place: usize, size: usize, all: usize) -> usize {
     place.min(all.saturating_sub(size))
@@ -48,7 +32,7 @@ pub(crate) fn regions(alloc: Global, site: Site<'_>) -> Result<Vec<Vec<usize>>, 
         if part == grid {
             break;
         }
-        part = larger(part, grid);
+        part = part.larger(grid);
     }
     Ok(regions)
 }

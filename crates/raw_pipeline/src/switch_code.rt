@@ -1,9 +1,8 @@
 //! The programs of switches.
-ghost use Rattle.std.specs.Prelude.{◌<◌, All};
 
 use crate::plan::{Plan, first_step};
 use raw_grid::{Dir, End, Net};
-use raw_switch_isa::{MAX_SWITCH_CODE, SwitchIns, SwitchSource};
+use raw_switch_isa::{MAX_SWITCH_CODE, SwitchIns, SwitchSource, route_codes};
 use std::alloc::{AllocError, Global};
 
 /// In each step the word of a value passes a switch.
@@ -28,34 +27,6 @@ struct Event {
 pub(crate) struct SwitchProgram {
     pub(crate) code: Vec<SwitchIns>,
     pub(crate) loops: Option<usize>,
-}
-
-// The code of a route, as the field of an instruction has it.
-fn code(routes: &[u8; 10], output: usize) -> u8
-    ensures { result < 6 }
-{
-    match routes.get(output) {
-        Some(code) if *code < 6 => *code,
-        _ => 0,
-    }
-}
-
-// All codes of routes.
-fn codes(routes: &[u8; 10]) -> [u8; 10]
-    ensures { All (λ code. code < 6) result }
-{
-    [
-        code(routes, 0),
-        code(routes, 1),
-        code(routes, 2),
-        code(routes, 3),
-        code(routes, 4),
-        code(routes, 5),
-        code(routes, 6),
-        code(routes, 7),
-        code(routes, 8),
-        code(routes, 9),
-    ]
 }
 
 /// What passes each switch of a grid in each step.
@@ -198,7 +169,7 @@ struct SwitchCode<'a> {
 impl SwitchCode<'_> {
     // Adds an instruction with routes.
     fn push(&mut self, ins: SwitchIns, routes: &[u8; 10]) -> Result<(), AllocError> {
-        self.code.push(ins.with_routes(codes(routes)))?;
+        self.code.push(ins.with_routes(route_codes(routes)))?;
         Ok(())
     }
 

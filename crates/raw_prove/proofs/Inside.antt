@@ -1,8 +1,8 @@
 -- A tile or a switch goes on only inside its program.
-use Rattle.std.proofs.Common.{◌≡◌, ℕ, ◌/◌, ◌<◌, Bool, true, false, cond, List, Option, Some, None, refl, sym, ap, ◌∙◌, subst}
-use Rattle.std.specs.Prelude.{nat_lt, nat_le, length, slice_index}
+use Rattle.std.proofs.Common.{◌≡◌, ℕ, ◌/◌, ◌<◌, false, List, Option, Some, None, refl, sym, ap, ◌∙◌, subst}
+use Rattle.std.specs.Prelude.{nat_le, length, slice_index}
 use Rattle.std.specs.Option.{option_map}
-use Rattle.std.proofs.lemmas.Bool.{ltb-true, or_parts}
+use Rattle.std.proofs.lemmas.Bool.{or_parts}
 use Rattle.raw_tile_isa.specs.Instruction.{Instruction}
 use Rattle.raw_model.specs.declared.marks.Mark.{Mark}
 use Rattle.raw_model.specs.declared.marks.Mark.TheVariants.{Going, Trapped}
@@ -11,7 +11,8 @@ use Rattle.raw_model.specs.declared.marks.Cause.TheVariants.{Pc}
 use Rattle.raw_model.specs.Program.{ProgramSet}
 use Rattle.raw_model.specs.Local.{Tile, TileLocal}
 use Rattle.raw_model.specs.Machine.{is_ended, is_stopped, tile_code}
-use Rattle.raw_model.specs.TileTable.{TileEffect, mark_at, stops, access_fault, unless_fault, gives_at, following}
+use Rattle.raw_model.specs.TileTable.{TileEffect, stops, access_fault, unless_fault, gives_at, following}
+use Rattle.raw_model.proofs.TileRows.{going_inside}
 use Rattle.raw_tile.specs.declared.fire.TileOut.{TileOut}
 use Rattle.raw_flow.specs.declared.node.Node.{Node}
 use Rattle.raw_term.specs.declared.action.Action.{Action}
@@ -21,12 +22,6 @@ use Rattle.raw_term.specs.TermRows.{TileTerms, action_of, acted, stored_term, ce
 use Rattle.raw_term.specs.Tiles.{IsFired}
 use Rattle.raw_prove.specs.declared.unit.TileUnit.{TileUnit}
 use Rattle.raw_prove.specs.Units.{IsTile}
-
-pub at_mark : (size pc : ℕ) → mark_at size pc ≡ Going → pc < size
-at_mark size pc e = by (nat_lt pc size) refl e where
-  by : (b : Bool) → nat_lt pc size ≡ b → cond b Going (Trapped Pc) ≡ Going → pc < size
-  by true f g = ltb-true pc size f
-  by false f g = absurd (cc g)
 
 -- a tile's effect leaves it inside a program of this size
 abbrev LeavesInside : ℕ → TileEffect → Type 0
@@ -38,13 +33,13 @@ module _ (nodes : List Node) (size : ℕ) (l : TileLocal) (a b : ℕ) (here : l.
   fault_inside (Some cause) effect h = λ e. here
 
   acted_inside : (action : Action) → LeavesInside size (acted nodes size l a b action).effect
-  acted_inside (Give register word pc) = at_mark size pc
-  acted_inside (Go pc) = at_mark size pc
+  acted_inside (Give register word pc) = going_inside size pc
+  acted_inside (Go pc) = going_inside size pc
   acted_inside (Stop mark) = λ e. here
   acted_inside (Load register address) =
-      fault_inside (access_fault address 4) (gives_at size l register (slice_index l.memory (address / 4)) (following l) (Some address)) (at_mark size (following l))
-  acted_inside (Store address) = fault_inside (access_fault address 4) (stored_term size l address b) (at_mark size (following l))
-  acted_inside _ = at_mark size (following l)
+      fault_inside (access_fault address 4) (gives_at size l register (slice_index l.memory (address / 4)) (following l) (Some address)) (going_inside size (following l))
+  acted_inside (Store address) = fault_inside (access_fault address 4) (stored_term size l address b) (going_inside size (following l))
+  acted_inside _ = going_inside size (following l)
 
   by_action : (o : Option Action) (t : TileTerms) → option_map (acted nodes size l a b) o ≡ Some t → LeavesInside size t.effect
   by_action None t e = absurd (cc e)

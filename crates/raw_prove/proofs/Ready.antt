@@ -28,6 +28,11 @@ and_none false c e = refl
 some_none : (w : ℕ) (o : Option ℕ) → o ≡ Some w → o ≡ None → ⊥
 some_none w o e f = cc (sym e ∙ f)
 
+-- what is no value is none
+pub none_left : {A : Type 0} (o : Option A) → ((x : A) → o ≡ Some x → ⊥) → o ≡ None
+none_left None other = refl
+none_left (Some x) other = absurd (other x refl)
+
 module _ (g : ProgramSet) (p : ℕ) (l : Local) (wires : List (List ℕ)) where
   pub ready_met : is_stopped g p l ≡ false → unmet_of g p l wires ≡ None → ready g p l wires ≡ true
   unfolding machine_of

@@ -316,8 +316,12 @@ module _ (set : ProgramSet) (p : ℕ) (l : PortLocal) (before : List Node) (wire
 pub tile_idle : (set : ProgramSet) (p : ℕ) (l : TileLocal) (before : List Node) (wires : List (List ℕ)) → ready set p (Tile l) wires ≡ false → IsIdle (numbered set) p before (Tile l) wires before (Tile l) wires
 tile_idle set p l before wires e = record { waits = ready_tile set p wires l ∙ e; nodes_stay = refl; local_stays = refl; wires_stay = refl }
 
+pub switch_waits : (set : ProgramSet) (p : ℕ) (l : SwitchLocal) (before : List Node) (wires later : List (List ℕ)) → ready set p (Switch l) wires ≡ false → later ≡ wires
+    → IsIdle (numbered set) p before (Switch l) wires before (Switch l) later
+switch_waits set p l before wires later e stays = record { waits = ready_switch set p wires l ∙ e; nodes_stay = refl; local_stays = refl; wires_stay = stays }
+
 pub switch_idle : (set : ProgramSet) (p : ℕ) (l : SwitchLocal) (before : List Node) (wires : List (List ℕ)) → ready set p (Switch l) wires ≡ false → IsIdle (numbered set) p before (Switch l) wires before (Switch l) wires
-switch_idle set p l before wires e = record { waits = ready_switch set p wires l ∙ e; nodes_stay = refl; local_stays = refl; wires_stay = refl }
+switch_idle set p l before wires e = switch_waits set p l before wires wires e refl
 
 -- what a fired sink keeps, and one that waits
 same_sink : (k l : PortLocal) → Sink k ≡ Sink l → k ≡ l

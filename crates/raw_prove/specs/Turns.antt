@@ -2,9 +2,11 @@
 use Rattle.std.specs.Prelude.{◌≡◌, ℕ, Bool, true, false, Option, None, Some, IsSomeAnd, List, unwrap_or}
 use Rattle.raw_network.specs.Network.{fronts, taken, appended, is_ready}
 use Rattle.raw_model.specs.Program.{ProgramSet}
-use Rattle.raw_model.specs.Local.{Local}
-use Rattle.raw_model.specs.Machine.{machine_of, takes}
+use Rattle.raw_model.specs.Local.{Local, Switch, SwitchLocal}
+use Rattle.raw_model.specs.SwitchTable.{next_instruction}
+use Rattle.raw_model.specs.Machine.{machine_of, takes, switch_code, given_to, row}
 use Rattle.raw_model.specs.Rest.{enabled}
+use Rattle.raw_serial.specs.Needs.{IsTaken}
 use Rattle.raw_flow.specs.declared.node.Node.{Node}
 use Rattle.raw_term.specs.Terms.{is_within, Overflows}
 use Rattle.raw_term.specs.TermMachine.{TermState, TermRow, term_row, term_step, numbered}
@@ -21,6 +23,14 @@ operand_by false given held = 0
 -- a processor with this local state may take its next step
 abbrev pub ready : ProgramSet → ℕ → Local → List (List ℕ) → Bool
 ready set p l wires = is_ready (machine_of set) p (Some l) wires
+
+-- what the next instruction of a switch is given, which takes values from wires and sends on what its routes say
+pub record AreRouted (set : ProgramSet) (p : ℕ) (l : SwitchLocal) (wires : List (List ℕ)) (given : List (Option ℕ)) (later : List (List ℕ)) : Type 0 where
+  pub values : List ℕ
+  pub left : List (List ℕ)
+  pub took : IsTaken set p (Switch l) wires left values
+  pub given_is : given ≡ given_to set.topo p (next_instruction (switch_code set p) l) values
+  pub later_is : later ≡ appended (row set p (Switch l) values).sent left
 
 -- its next row
 abbrev pub next_row : ProgramSet → List Node → ℕ → Local → List (List ℕ) → Option TermRow

@@ -25,6 +25,6 @@ pub use proving::{nodes_of, outcome_of, prove};
 pub use rows::{misfed, prove_rows, words_at};
 pub use running::End;
 pub use turn::Turn;
-pub use turns::{turn_switch, turn_tile};
+pub use turns::{has_stopped, route_switch, switch_program, tile_program, turn_switch, turn_tile};
 pub use unclaimed::run_terms;
 pub use unit::{SourceUnit, TileUnit, Unit};

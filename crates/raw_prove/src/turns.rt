@@ -1,5 +1,5 @@
 //! The turns of processors, by their kinds.
-ghost use Rattle.std.specs.Prelude.{◌≡◌, ℕ, ◌+◌, ◌*◌, ◌^◌, ◌<◌, ◌≤◌, ◌||◌, nat_le, length, slice_index, Some, List, IfOk, IsSomeAnd, OnErr, Err, false, unwrap_or};
+ghost use Rattle.std.specs.Prelude.{◌≡◌, ℕ, ◌+◌, ◌*◌, ◌^◌, ◌<◌, ◌≤◌, ◌||◌, nat_le, length, slice_index, None, Some, List, IfOk, IfSome, IsSomeAnd, OnErr, Err, false, unwrap_or};
 ghost use Rattle.raw_grid.specs.Topology.{tile_count};
 ghost use Rattle.raw_tile_isa.specs.Instruction.{uses, is_rs, reads_rt};
 ghost use Rattle.raw_switch_isa.specs.Ends.{move_source};
@@ -16,7 +16,7 @@ ghost use Rattle.raw_term.specs.TermMachine.{numbered};
 ghost use Rattle.raw_term.specs.Switches.{IsControl};
 ghost use Rattle.raw_term.specs.Tiles.{IsFired, MayStep};
 ghost use Rattle.raw_prove.specs.Units.{local_of, IsTile, IsSwitch, IsSource, IsSink, IsUnit};
-ghost use Rattle.raw_prove.specs.Turns.{IsTurn, operand_by};
+ghost use Rattle.raw_prove.specs.Turns.{IsTurn, AreRouted, ready, operand_by};
 
 use crate::turn::Turn;
 use crate::unit::{SourceUnit, TileUnit, Unit};
@@ -91,8 +91,8 @@ fn step_tile(
     }
 }
 
-// Whether a tile takes no more steps.
-fn has_stopped(tile: &TermTile, limit: u32) -> bool
+/// Whether a tile takes no more steps.
+pub fn has_stopped(tile: &TermTile, limit: u32) -> bool
     ensures { result ≡ (is_ended tile.now.mark || nat_le limit tile.now.count) }
 {
     tile_stopped(&tile.state, limit)
@@ -114,8 +114,8 @@ fn instruction_of<'c>(program: &'c [TileIns], tile: &TermTile) -> &'c TileIns
     &program[tile.state.pc as usize]
 }
 
-// The program of a tile.
-fn tile_program(set: &Set, p: ProcId) -> &[TileIns]
+/// The program of a tile.
+pub fn tile_program(set: &Set, p: ProcId) -> &[TileIns]
     requires { p.0 < tile_count set.now.topo }
     ensures { result.now ≡ tile_code set.now p.0 }
 {
@@ -123,8 +123,8 @@ fn tile_program(set: &Set, p: ProcId) -> &[TileIns]
     &program.code
 }
 
-// The program of a switch.
-fn switch_program(set: &Set, p: ProcId) -> &[SwitchIns]
+/// The program of a switch.
+pub fn switch_program(set: &Set, p: ProcId) -> &[SwitchIns]
     requires behind { tile_count set.now.topo ≤ p.0 }
     requires there { p.0 < 2 * tile_count set.now.topo }
     ensures { result.now ≡ switch_code set.now p.0 }
@@ -221,6 +221,33 @@ pub fn turn_switch(
     step_switch(set, p, ends, unit, wires, table)
 }
 
+/// What the next instruction of a switch is given: it is taken from wires, and what its routes say is sent on. None where
+/// the switch cannot step; then nothing is changed.
+pub fn route_switch(
+    set: &Set,
+    p: ProcId,
+    ends: &EndWires,
+    unit: &SwitchUnit,
+    wires: &mut Wires,
+) -> Option<[Option<u32>; 10]>
+    requires stands { EndsStand set.now p.0 ends.now wires.old }
+    requires unit { IsSwitch set.now p.0 unit.now }
+    requires going { is_stopped set.now p.0 (Switch unit.now.state) ≡ false }
+    ensures waits { result ≡ None → ready set.now p.0 (Switch unit.now.state) wires.old ≡ false }
+    ensures stays { result ≡ None → wires.new ≡ wires.old }
+    ensures routes { IfSome result (λ given. AreRouted set.now p.0 unit.now.state wires.old given wires.new) }
+{
+    let code: &[SwitchStep] = &unit.code;
+    let step = unit.state.instruction(code);
+    let needs = switch_needs(code, &unit.state);
+    if let Some(_wire) = unmet_at(set, ends, needs, wires) {
+        return None;
+    }
+    let given = wires.take_inputs(needs.inputs, &ends.inputs);
+    wires.put_routes(step, &unit.state, &ends.outputs, &given);
+    Some(given)
+}
+
 // Steps a switch that is not stopped, if it can.
 fn step_switch(
     set: &Set,
@@ -237,16 +264,10 @@ fn step_switch(
         IsTurn (numbered set.now) p.0 table.old (Switch unit.old.state) wires.old turn table.new (Switch unit.new.state) wires.new) }
     ensures kept { IsSwitch set.now p.0 unit.new }
 {
-    let code: &[SwitchStep] = &unit.code;
-    let state = &mut unit.state;
-    let step = state.instruction(code);
-    let needs = switch_needs(code, state);
-    if let Some(_wire) = unmet_at(set, ends, needs, wires) {
+    let Some(given) = route_switch(set, p, ends, unit, wires) else {
         return Ok(Turn::Idle);
-    }
-    let given = wires.take_inputs(needs.inputs, &ends.inputs);
-    wires.put_routes(step, state, &ends.outputs, &given);
-    match fire_switch(switch_program(set, p), state, table, &given) {
+    };
+    match fire_switch(switch_program(set, p), &mut unit.state, table, &given) {
         Ok(true) => Ok(Turn::Fired),
         Ok(false) => Ok(Turn::Hangs),
         Err(TermRefusal::TooMany) => Ok(Turn::TooMany),

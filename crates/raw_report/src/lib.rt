@@ -13,5 +13,6 @@ mod writing;
 pub use history::{HistoryRefusal, read_history, write_history};
 pub use laws::{law_history, law_same_report};
 pub use outcome::put_outcome;
+pub use ports::port_number;
 pub use raw_state_text::{LINE_SIZE, Line};
 pub use writing::write_report;

@@ -10,8 +10,8 @@ use raw_io::{Failed, Sink};
 use raw_serial::Machine;
 use raw_state_text::put_line;
 
-// The processor that is a port, by its number in the list of ports: ports are the last processors.
-fn port_number(m: &Machine<'_>, i: u32) -> ProcId
+/// The processor that is a port, by its number in the list of ports: ports are the last processors.
+pub fn port_number(m: &Machine<'_>, i: u32) -> ProcId
     requires { i < length m.now.set.topo.places }
     ensures value { result.0 ≡ 2 * tile_count m.now.set.topo + i }
     ensures there { result.0 < proc_count m.now.set.topo }

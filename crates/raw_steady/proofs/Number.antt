@@ -17,7 +17,7 @@ all_in f a zero each = refl
 all_in f a (suc n) each =
     and_from (f a) (list_all f (range_with_len (a + 1) n)) (each a (omega arith)) (all_in f (a + 1) n (λ k high. each k (omega arith)))
 
-each_in : (f : ℕ → Bool) (a n : ℕ) → list_all f (range_with_len a n) ≡ true → (k : ℕ) → a ≤ k → k < a + n → f k ≡ true
+pub each_in : (f : ℕ → Bool) (a n : ℕ) → list_all f (range_with_len a n) ≡ true → (k : ℕ) → a ≤ k → k < a + n → f k ≡ true
 each_in f a zero all k low high = absurd (omega arith)
 each_in f a (suc n) all k low high =
     let parts = and_parts (f a) (list_all f (range_with_len (a + 1) n)) all in

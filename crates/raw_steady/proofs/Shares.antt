@@ -46,7 +46,7 @@ four true (Some Stopped) rests = refl
 four true (Some (Waits w)) rests = absurd (true_false (rests (Waits w) refl))
 
 -- and so is a turn, of four others
-one_kind : (t : Turn) → one_if (is_fired t) + one_if (is_stalled t) + one_if (is_stop t) + one_if (is_wait t) ≡ 1
+pub one_kind : (t : Turn) → one_if (is_fired t) + one_if (is_stalled t) + one_if (is_stop t) + one_if (is_wait t) ≡ 1
 one_kind Fired = refl
 one_kind Stalled = refl
 one_kind Stopped = refl

@@ -6,31 +6,10 @@ use Rattle.std.proofs.lemmas.List.{length-append, take_more}
 use Rattle.std.proofs.lemmas.List.Elements.{filter_map-append}
 use Rattle.std.proofs.lemmas.List.Folds.{list_any-append, list_any_at}
 use Rattle.std.proofs.lemmas.List.FromFn.{length-range_with_len, get_or-range_with_len}
-use Rattle.std.proofs.lemmas.List.Sums.{sum_by-cons, sum_by_push}
+use Rattle.std.proofs.lemmas.List.Sums.{sum_by_push}
 use Rattle.raw_stream.specs.declared.out.StreamOut.{StreamOut}
-use Rattle.raw_stream.specs.declared.row_node.RowNode.{RowNode}
-use Rattle.raw_stream.specs.declared.row_node.RowNode.TheVariants.{Input, Const, Apply, Pre}
 use Rattle.raw_stream.specs.Streams.{due_of}
-use Rattle.raw_stream.specs.Unrolled.{takes}
 use Rattle.raw_stream.specs.Kept.{gives}
-
--- ---- no more words of a row than nodes and outs
-few_by : {X : Type 0} (f : X → ℕ) (xs : List X) → ((x : X) → f x ≤ 1) → sum_by f xs ≤ length xs
-few_by f [] one = omega arith
-few_by f (x ∷ xs) one = let first = one x in let rest = few_by f xs one in omega (arith, first, rest, sum_by-cons f x xs)
-
-test_one : (b : Bool) → cond b 1 0 ≤ 1
-test_one true = omega arith
-test_one false = omega arith
-
-takes_one : (q : ℕ) (node : RowNode) → takes q node ≤ 1
-takes_one q (Input p) = test_one (eqb p q)
-takes_one q (Const word) = omega arith
-takes_one q (Apply op a b) = omega arith
-takes_one q (Pre a word) = omega arith
-
-pub few_taken : (q : ℕ) (nodes : List RowNode) → sum_by (takes q) nodes ≤ length nodes
-few_taken q nodes = few_by (takes q) nodes (takes_one q)
 
 -- ---- outs one by one
 one_due : (b : Bool) (v : ℕ) → length (cons_option (cond b (Some v) None) []) ≡ cond b 1 0

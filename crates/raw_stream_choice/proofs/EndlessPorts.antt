@@ -1,7 +1,6 @@
 -- The ports of a set that is to be fed with the rows of a stream, and a copy of such a set.
-use Rattle.std.proofs.Common.{◌≡◌, ℕ, zero, suc, ◌+◌, ◌*◌, ◌/◌, ◌^◌, ◌<◌, ◌≤◌, min, List, [], ◌∷◌, ◌++◌, length, get_or, map, Some, refl, sym, ap, ◌∙◌, subst, arith, sum_by, le_trans}
+use Rattle.std.proofs.Common.{◌≡◌, ℕ, zero, suc, ◌+◌, ◌*◌, ◌/◌, ◌^◌, ◌<◌, ◌≤◌, min, List, [], ◌∷◌, ◌++◌, length, get_or, map, refl, sym, ap, ◌∙◌, subst, arith, sum_by, le_trans}
 use Rattle.std.specs.List.{All}
-use Rattle.std.specs.Prelude.{slice_get}
 use Rattle.std.proofs.Math.Nat.{mul-div-le, mul-le-mul_left, suc-mul}
 use Rattle.std.proofs.lemmas.List.{length-map}
 use Rattle.std.proofs.lemmas.List.Elements.{All-nil, All-map, All-head, All-tail}
@@ -9,13 +8,11 @@ use Rattle.std.proofs.lemmas.List.Sums.{sum_by-cons}
 use Rattle.raw_grid.specs.declared.parts.PortKind.{PortKind}
 use Rattle.raw_grid.specs.declared.parts.PortKind.TheVariants.{Source, Sink}
 use Rattle.raw_grid.specs.declared.parts.PortPlace.{PortPlace}
-use Rattle.raw_grid.specs.Topology.{Topology}
-use Rattle.raw_model.specs.declared.limits.TheConstants.{DEFAULT_DEPTH, MAX_CAPACITY, MAX_ALL_CAPACITIES}
-use Rattle.raw_model.specs.declared.program.Show.{Show}
-use Rattle.raw_model.specs.Program.{ProgramSet, TileProgram, PortProgram, IsPortProgram, IsOfKind, AreOfKinds, IsSet}
+use Rattle.raw_model.specs.declared.limits.TheConstants.{MAX_CAPACITY, MAX_ALL_CAPACITIES}
+use Rattle.raw_model.specs.Program.{PortProgram, IsPortProgram, IsOfKind, AreOfKinds}
 use Rattle.raw_stream.specs.Streams.{Stream}
 use Rattle.raw_stream.specs.Kept.{IsStream}
-use Rattle.raw_stream_choice.specs.StreamSets.{stream_topo, ArePortsFor, IsSetWith}
+use Rattle.raw_stream_choice.specs.StreamSets.{ArePortsFor}
 use Rattle.raw_stream_choice.specs.Endless.{room_among, room_at, endless_port, endless_ports}
 
 abbrev words_in : PortProgram → ℕ
@@ -101,14 +98,3 @@ endless_ports_lawful s is = record {
 
 pub are_endless_ports : (s : Stream) (ports : List PortProgram) → IsStream s → ports ≡ endless_ports s → ArePortsFor s ports
 are_endless_ports s ports is same = subst (ArePortsFor s) (sym same) (endless_ports_lawful s is)
-
--- ---- a set that is made of the same parts is the same
-pub same_set : (s : Stream) (ports : List PortProgram) (set : ProgramSet) → IsSetWith s ports set
-    → (topo : Topology) (limit : ℕ) (others : List PortProgram) (tiles : List TileProgram) (shows : List Show)
-    → topo ≡ stream_topo s → limit ≡ set.limit → others ≡ ports → tiles ≡ set.tiles → shows ≡ []
-    → ◌≡◌ {A = ProgramSet} (record { topo = topo; limit = limit; depth = DEFAULT_DEPTH; ports = others; tiles = tiles; shows = shows }) set
-same_set s ports set is topo limit others tiles shows a b c d e =
-    let made : ◌≡◌ {A = ProgramSet} (record { topo = topo; limit = limit; depth = DEFAULT_DEPTH; ports = others; tiles = tiles; shows = shows })
-    (record { topo = stream_topo s; limit = set.limit; depth = DEFAULT_DEPTH; ports = ports; tiles = set.tiles; shows = [] }) =
-    λ i. record { topo = a i; limit = b i; depth = DEFAULT_DEPTH; ports = c i; tiles = d i; shows = e i } in
-    made ∙ sym is

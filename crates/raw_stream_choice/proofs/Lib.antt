@@ -3,6 +3,5 @@ mod Lawful
 mod Words
 mod Sinks
 mod Placed
-mod Choices
 mod EndlessPorts
 mod MetRows

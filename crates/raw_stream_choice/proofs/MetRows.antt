@@ -1,23 +1,11 @@
 -- A set that is proved for numbers of rows meets a stream row by row.
-use Rattle.std.proofs.Common.{◌≡◌, ℕ, ◌*◌, ◌<◌, ◌≤◌, true, List, ◌++◌, length, sym, ap, ◌∙◌, arith, leb-true}
-use Rattle.std.specs.Prelude.{nat_le, nat_lt}
-use Rattle.std.specs.List.{All, list_all}
-use Rattle.std.proofs.lemmas.List.Sums.{AllPass-from_list_all}
-use Rattle.raw_grid.specs.declared.parts.PortPlace.{PortPlace}
+use Rattle.std.proofs.Common.{arith}
 use Rattle.raw_model.specs.Program.{ProgramSet}
 use Rattle.raw_stream.specs.Streams.{Stream}
 use Rattle.raw_cut.specs.declared.extent.Extent.{Extent}
 use Rattle.raw_cut.specs.Live.{IsMetFrom}
 use Rattle.raw_stream_choice.specs.PortNumbers.{numbered}
 use Rattle.raw_stream_choice.specs.Endless.{IsLong, MeetsNumbersOfRows}
-
-pub is_long : (extent : Extent) (delay : ℕ) → extent.least ≤ delay → list_all (λ lack. nat_le lack delay) extent.lacks.items ≡ true → 2 * delay < extent.most → IsLong extent
-is_long extent delay least few most = record {
-  delay = delay;
-  least = least;
-  lacks = λ k d lt. leb-true _ _ (AllPass-from_list_all (λ lack. nat_le lack delay) extent.lacks.items few k d lt);
-  most = most;
-}
 
 -- what is so from a number of rows on is so from a greater one on
 pub met_rows : (s : Stream) (set : ProgramSet) (extent : Extent) → IsLong extent → IsMetFrom set (numbered s) extent.least extent.most extent.lacks.items → MeetsNumbersOfRows s set

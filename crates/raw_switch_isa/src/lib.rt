@@ -21,4 +21,5 @@ pub use code::{decode, encode};
 pub use ends::{are_within, has_end, inputs, next_end, outputs};
 pub use instruction::{SwitchIns, SwitchSource};
 pub use limits::MAX_SWITCH_CODE;
+pub use making::route_codes;
 pub use table::{SwitchOp, SwitchOperand};

@@ -7,6 +7,34 @@ ghost use Rattle.raw_switch_isa.specs.Instruction.{IsSwitchIns};
 use crate::instruction::{SwitchIns, SwitchSource};
 use crate::table::SwitchOp;
 
+// The code of a route, as the field of an instruction has it.
+fn route_code(routes: &[u8; 10], output: usize) -> u8
+    ensures { result < 6 }
+{
+    match routes.get(output) {
+        Some(code) if *code < 6 => *code,
+        _ => 0,
+    }
+}
+
+/// The codes of the routes to the ten outputs, as an instruction has them: 0 where one is no code.
+pub fn route_codes(routes: &[u8; 10]) -> [u8; 10]
+    ensures { All (λ code. code < 6) result }
+{
+    [
+        route_code(routes, 0),
+        route_code(routes, 1),
+        route_code(routes, 2),
+        route_code(routes, 3),
+        route_code(routes, 4),
+        route_code(routes, 5),
+        route_code(routes, 6),
+        route_code(routes, 7),
+        route_code(routes, 8),
+        route_code(routes, 9),
+    ]
+}
+
 impl SwitchSource {
     /// The value of an instruction's field `src` for a move from here: a register's number from 0 to 3, an
     /// input's end index, from 0 to 9, and 4.

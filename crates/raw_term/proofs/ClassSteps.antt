@@ -17,10 +17,6 @@ use Rattle.raw_term.proofs.Forms.{made_is}
 use Rattle.raw_term.proofs.SameSums.{less_or_same, holds_index, apply_index}
 use Rattle.raw_term.proofs.SameTerms.{same_holds}
 
--- before the first term
-pub no_classes : (nodes : List Node) → AreClasses nodes nodes []
-no_classes nodes inputs are = record { terms = are; keeps = λ c x h. h; each = λ c x l h. absurd (omega (arith, l)) }
-
 last_index : (cs : List ℕ) (n : ℕ) → slice_index (cs ++ n ∷ []) (length cs) ≡ n
 last_index cs n = get_or_from_slice_get (cs ++ n ∷ []) (length cs) n 0 (get_next cs [] n)
 

@@ -9,7 +9,7 @@ use Rattle.std.proofs.lemmas.Nat.{xor_comm, xor_shr, and_shr, xor_lt, or_lt, and
 use Rattle.std.proofs.lemmas.Nat.Bits.{same_from_bits, bit_at-zero, bit_at-lt, bit_at_and, bit_at_or, bit_at_xor, bit_at_above, bit_at_cat_low, bit_at_cat_high, bit_at_ones, and_pow, ones_shr}
 use Rattle.raw_tile_isa.specs.Words.{signed, modulo, word_add, word_sub, word_shift_left, word_shift_right, word_shift_right_signed}
 use Rattle.raw_term.specs.Exclusives.{moved, others}
-use Rattle.raw_term.proofs.RuleLaws.{complement, left_over, right_over, signed_low, signed_high}
+use Rattle.raw_term.proofs.RuleLaws.{complement, left_over, signed_low, signed_high}
 
 -- bits of shifted numbers
 plus_none : (x : ℕ) → x + 0 ≡ x
@@ -201,16 +201,6 @@ left_out p x k l n o = by (nat_le 31 p) refl where
   by : (c : Bool) → nat_le 31 p ≡ c → cond c (word_shift_left (word_shift_left x k) (p - 31)) (word_shift_right (word_shift_left x k) (31 - p)) ≡ 0
   by true e = let g : 31 ≤ p = grind (arith, nat_tests, e) in left_over x k (p - 31) n (omega (arith, l)) (omega (arith, g, o))
   by false e = let g : p < 31 = grind (arith, nat_tests, e) in absurd (omega (arith, g, n, o))
-
-pub right_out : (p x k : ℕ) → x < 2 ^ 32 → k < 32 → p < k → moved p (word_shift_right x k) ≡ 0
-right_out p x k h n o = by (nat_le 31 p) refl where
-  by : (c : Bool) → nat_le 31 p ≡ c → cond c (word_shift_left (word_shift_right x k) (p - 31)) (word_shift_right (word_shift_right x k) (31 - p)) ≡ 0
-  by true e = let g : 31 ≤ p = grind (arith, nat_tests, e) in absurd (omega (arith, g, n, o))
-  by false e =
-      let g : p < 31 = grind (arith, nat_tests, e) in
-      split 0 p (word_shift_right (word_shift_right x k) (31 - p) ≡ 0)
-      (λ z. right_over x k (31 - p) h n (omega (arith, z)) (omega (arith, g, o)))
-      (λ z. right_over x k (31 - p) h n (omega arith) (omega (arith, g, o)))
 
 -- Operations with a word: a mask, and an exclusive or.
 pub all_ones : (x : ℕ) → x < 2 ^ 32 → bit_and x (2 ^ 32 - 1) ≡ x

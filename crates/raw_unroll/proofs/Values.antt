@@ -16,7 +16,7 @@ use Rattle.raw_stream.proofs.Places.{word_within}
 use Rattle.raw_stream.proofs.Taken.{pres, pres_first, pres_next, taken_pre, taken_word}
 use Rattle.raw_stream.proofs.Unrolled.{EachValue, are_plain}
 use Rattle.raw_unroll.specs.Values.{carried_into, row_at, AreNext, IsBefore, AreValues, HasValue, node_value, next_after}
-use Rattle.raw_unroll.proofs.Rows.{input_next, other_next, row_done_place, first_word}
+use Rattle.raw_unroll.proofs.Rows.{input_next, other_next, first_word}
 use Rattle.raw_unroll.proofs.Begins.{firsts_long, firsts_at}
 use Rattle.raw_stream.specs.Unrolled.{first}
 
@@ -132,9 +132,6 @@ row_whole s all r values are =
     same_lists values (row_at s all r) (are.many ∙ sym long)
     (λ k d within.
     get_or_default values k d 0 within ∙ are.each k (omega (arith, within, are.many)) ∙ get_or_default (row_at s all r) k 0 d (omega (arith, within, are.many, long)))
-
-pub next_row : (s : Stream) (r : ℕ) (next : List ℕ) → AreNext s r (length s.nodes) next → AreNext s (r + 1) 0 next
-next_row s r next are = record { many = are.many; each = λ q below. are.each q below ∙ row_done_place s r q }
 
 pub next_first : (s : Stream) (next : List ℕ) → next ≡ map (first s) (range_with_len 0 (length s.sources)) → AreNext s 0 0 next
 next_first s next is = record {

@@ -1,10 +1,10 @@
-use Rattle.std.proofs.Common.{◌+◌, [], map, subst}
+use Rattle.std.proofs.Common.{ℕ, ◌+◌, List, [], map, subst}
 use Rattle.std.specs.Prelude.{slice_index_or}
 use Rattle.std.proofs.lemmas.Result.{IfOk-weaker}
 use Rattle.raw_model.specs.Program.{ProgramSet}
 use Rattle.raw_flow.specs.Flows.{AreNodes}
 use Rattle.raw_stream.specs.Streams.{Stream}
-use Rattle.raw_rows.specs.Kernels.{unknown}
+use Rattle.raw_rows.specs.Kernels.{Leads, start_cut, known, unknown}
 use Rattle.raw_cut.specs.Cuts.{cut_of}
 use Rattle.raw_cut.specs.Parts.{IsSameBut}
 use Rattle.raw_cut.proofs.Same.{same_then, leads_same, rests_same}
@@ -22,7 +22,7 @@ returns-clause-live c =
     IfOk-weaker c.all_rest.result _ _
     (λ yes rests e. record {
       constants = words_of_nodes w.cut.nodes.items (subst AreNodes c.deref.ensures.value (c.are_nodes.ensures c.if-not-are_nodes.false));
-      opens = c.in_ok-opens.ensures.opens c.if-not-branch.false;
+      opens = subst (λ (steps : List ℕ). Leads set s w.first_limit (known s) (start_cut set) steps w.first_rows (cut_of w.cut)) c.deref-2.ensures.value (c.in_ok-opens.ensures.opens c.if-not-branch.false);
       steady = leads_same set first c.opens.ensures.same s w.limit (unknown s) (cut_of w.cut) w.kernel.items w.rows (cut_of w.cut) (c.in_ok-is_steady.ensures.steady c.if-not-branch-2.false);
       rests = λ i below. rests_same set second both s w.last_limit (unknown s) (cut_of w.cut) (slice_index_or (map (λ steps. steps.items) w.endings.items) i []) w.lacks.items (w.cut.window + i) (rests e i below);
     })

@@ -1,4 +1,4 @@
-use Rattle.std.proofs.Common.{◌≡◌, List, subst, ap, ◌∙◌}
+use Rattle.std.proofs.Common.{◌≡◌, ℕ, List, subst, ap, ◌∙◌}
 use Rattle.std.proofs.lemmas.Result.{IfOk-weaker}
 use Rattle.raw_model.specs.Program.{ProgramSet}
 use Rattle.raw_flow.specs.Flows.{AreNodes}
@@ -32,7 +32,8 @@ returns-clause-proof c =
       looks = words_of_nodes w.looks (subst AreNodes c.deref-3.ensures.value (c.are_nodes-2.ensures c.if-not-are_nodes-2.false));
       count = c.passes_all.ensures.count c.if-not-passes_all.false ∙ ap (λ (x : Stream). x.count) c.stream.view_is;
       window = c.passes_all.ensures.window c.if-not-passes_all.false;
-      opens = subst (λ (x : Stream). Leads set x w.first_limit (known x) (start_cut set) w.opening w.first_rows w.cut) extended_is (c.in_ok-opens.ensures.opens c.if-not-branch.false);
+      opens = subst (λ (x : Stream). Leads set x w.first_limit (known x) (start_cut set) w.opening w.first_rows w.cut) extended_is
+          (subst (λ (steps : List ℕ). Leads set c.in-Some.extended w.first_limit (known c.in-Some.extended) (start_cut set) steps w.first_rows w.cut) c.deref-5.ensures.value (c.in_ok-opens.ensures.opens c.if-not-branch.false));
       steady = steady_same set c.opens.new.set c.opens.ensures.same s w (parts e).0;
       ends = done_same set c.opens.new.set c.opens.ensures.same s w (parts e).1;
     })

@@ -1,115 +1,43 @@
-use Rattle.std.proofs.Common.{◌≡◌, ℕ, Bool, true, false, List, Option, None, Ok, Err, subst, length, sym, ap, refl, rules, ◌∙◌}
-use Rattle.raw_network.specs.Network.{Sent, fronts, appended}
-use Rattle.raw_network.proofs.Wires.{length-taken}
-use Rattle.raw_switch_isa.specs.Instruction.{SwitchInstruction}
-use Rattle.raw_model.specs.Local.{Switch}
-use Rattle.raw_model.specs.Machine.{row, switch_code, given_to}
-use Rattle.raw_model.specs.SwitchTable.{next_instruction, effect_of, routed}
-use Rattle.raw_processor.specs.Given.{wires_in, sent_at}
-use Rattle.raw_processor.proofs.SwitchValues.{given_next}
-use Rattle.raw_serial.specs.Needs.{AreNeedsOf, IsTaken, unmet_of}
-use Rattle.raw_serial.proofs.Stepping.{put_there, put_room, counts_taken, is_taken}
-use Rattle.raw_serial.proofs.Switching.{some_inside, sent_is}
-use Rattle.raw_serial.proofs.Unmet.{switch_needs}
+use Rattle.std.proofs.Common.{◌≡◌, Bool, true, false, Ok, Err, length, subst}
 use Rattle.std.specs.Prelude.{IfOk}
+use Rattle.raw_model.specs.SwitchTable.{next_instruction}
 use Rattle.raw_term.specs.declared.refusal.TermRefusal.TheVariants.{TooMany}
 use Rattle.raw_term.specs.TermRows.{term_switch}
 use Rattle.raw_term.specs.Switches.{IsControl}
-use Rattle.raw_prove.proofs.Ready.{ready_unmet}
-use Rattle.raw_prove.proofs.Turning.{switch_idle, switch_fired, switch_hung, switch_over}
+use Rattle.raw_prove.proofs.Ready.{none_left}
+use Rattle.raw_prove.proofs.Turning.{switch_waits, switch_fired, switch_hung, switch_over}
 use Rattle.raw_prove.proofs.turns.step_switch.Goals as goal
-use Rattle.raw_prove.proofs.turns.step_switch.Goals.{After-switch_needs-needs, After-take_inputs-given, After-fire_switch}
+use Rattle.raw_prove.proofs.turns.step_switch.Goals.{After-fire_switch}
 
--- what the next step needs
-needs : (c : After-switch_needs-needs)
-    → AreNeedsOf c.args.set.now c.args.p.0 (Switch c.args.unit.now.state) c.args.ends.now (wires_in c.switch_needs-needs.result.inputs c.args.ends.now.inputs) (wires_in c.switch_needs-needs.result.outputs c.args.ends.now.outputs)
-needs c =
-    switch_needs c.args.set.now c.args.p.0 c.args.unit.now.state c.args.ends.now c.deref-code.result.now _ _ c.requires.stands.ends_are (c.deref-code.ensures.value ∙ c.requires.unit.code)
-    (c.switch_needs-needs.ensures.takes c.args.set.now.topo c.args.p.0 c.args.ends.now c.requires.stands.ends_are) (c.switch_needs-needs.ensures.sends c.args.set.now.topo c.args.p.0 c.args.ends.now c.requires.stands.ends_are)
-
-needs_then : (c : After-take_inputs-given)
-    → AreNeedsOf c.args.set.now c.args.p.0 (Switch c.args.unit.now.state) c.args.ends.now (wires_in c.switch_needs-needs.result.inputs c.args.ends.now.inputs) (wires_in c.switch_needs-needs.result.outputs c.args.ends.now.outputs)
-needs_then c =
-    switch_needs c.args.set.now c.args.p.0 c.args.unit.now.state c.args.ends.now c.deref-code.result.now _ _ c.requires.stands.ends_are (c.deref-code.ensures.value ∙ c.requires.unit.code)
-    (c.switch_needs-needs.ensures.takes c.args.set.now.topo c.args.p.0 c.args.ends.now c.requires.stands.ends_are) (c.switch_needs-needs.ensures.sends c.args.set.now.topo c.args.p.0 c.args.ends.now c.requires.stands.ends_are)
-
--- the values that it takes, how they are given to it, and what it sends
-abbrev values : After-take_inputs-given → List ℕ
-values c = fronts (wires_in c.switch_needs-needs.result.inputs c.args.ends.now.inputs) c.args.wires.now
-
-given_code : (c : After-take_inputs-given) → c.take_inputs-given.result ≡ given_to c.args.set.now.topo c.args.p.0 (next_instruction c.deref-code.result.now c.args.unit.now.state) (values c)
-given_code c =
-    c.take_inputs-given.ensures.given
-    ∙ given_next c.args.set.now.topo c.args.p.0 c.args.ends.now (next_instruction c.deref-code.result.now c.args.unit.now.state) c.switch_needs-needs.result.inputs (values c) c.requires.stands.ends_are
-    (some_inside c.deref-code.result.now c.args.unit.now.state.pc (search (rules, (c.deref-code.ensures.value ∙ c.requires.unit.code)))) c.switch_needs-needs.ensures.inputs
-
-given : (c : After-take_inputs-given) → c.take_inputs-given.result ≡ given_to c.args.set.now.topo c.args.p.0 (next_instruction (switch_code c.args.set.now c.args.p.0) c.args.unit.now.state) (values c)
-given c = given_code c ∙ ap (λ (code : List SwitchInstruction). given_to c.args.set.now.topo c.args.p.0 (next_instruction code c.args.unit.now.state) (values c)) (c.deref-code.ensures.value ∙ c.requires.unit.code)
-
-sent : (c : After-take_inputs-given) → sent_at c.args.ends.now.outputs (routed c.instruction-step.result.now c.args.unit.now.state.regs c.take_inputs-given.result)
-    ≡ (row c.args.set.now c.args.p.0 (Switch c.args.unit.now.state) (values c)).sent
-sent c =
-    sent_is c.args.set.now c.args.p.0 c.args.unit.now.state c.args.ends.now c.deref-code.result.now (values c) c.take_inputs-given.result _ c.requires.stands.ends_are (c.deref-code.ensures.value ∙ c.requires.unit.code) (given_code c)
-    (sym (ap (λ (next : Option SwitchInstruction). (effect_of next (length c.deref-code.result.now) c.args.unit.now.state c.take_inputs-given.result).sent) c.instruction-step.ensures))
-
-none : (c : After-take_inputs-given) → unmet_of c.args.set.now c.args.p.0 (Switch c.args.unit.now.state) c.args.wires.now ≡ None
-none c = sym (c.in_default.ensures c.args.p.0 (Switch c.args.unit.now.state) (needs_then c))
-
-took : (c : After-take_inputs-given) → IsTaken c.args.set.now c.args.p.0 (Switch c.args.unit.now.state) c.args.wires.now c.take_inputs-given.new.self (values c)
-took c =
-    is_taken c.args.set.now c.args.p.0 (Switch c.args.unit.now.state) c.args.wires.now c.args.ends.now _ _ _ _ (needs_then c) (none c) refl c.take_inputs-given.ensures.rest
-
-pub unmet_at-requires-clause-needs : goal.unmet_at-requires-clause-needs
-unmet_at-requires-clause-needs c = record { p = c.args.p.0; l = Switch c.args.unit.now.state; needs = needs (goal.at.unmet_at-requires-clause-needs c).After-switch_needs-needs }
-
-pub returns-in-Some-clause-turn : goal.returns-in-Some-clause-turn
-returns-in-Some-clause-turn c =
-    let l = Switch c.args.unit.now.state in
-    switch_idle c.args.set.now c.args.p.0 c.args.unit.now.state c.args.table.now c.args.wires.now
-    (ready_unmet c.args.set.now c.args.p.0 l c.args.wires.now c.in-Some._wire.0 (sym (c.in-Some.ensures c.args.p.0 l (needs (goal.at.returns-in-Some-clause-turn c).After-switch_needs-needs))))
-
-pub take_inputs-given-requires : goal.take_inputs-given-requires
-take_inputs-given-requires c =
-    let l = Switch c.args.unit.now.state in
-    let needs = needs (goal.at.take_inputs-given-requires c).After-switch_needs-needs in
-    counts_taken c.args.set.now c.args.p.0 l c.args.wires.now c.args.ends.now _ _ needs (sym (c.in_default.ensures c.args.p.0 l needs))
-
-pub put_routes-requires-clause-there : goal.put_routes-requires-clause-there
-put_routes-requires-clause-there c =
-    let at = (goal.at.put_routes-requires-clause-there c).After-take_inputs-given in
-    put_there c.args.set.now c.args.p.0 (Switch c.args.unit.now.state) (values at) (length c.take_inputs-given.new.self) _ (sent at)
-    (ap length c.take_inputs-given.ensures.rest ∙ length-taken (wires_in c.switch_needs-needs.result.inputs c.args.ends.now.inputs) c.args.wires.now ∙ c.requires.stands.each)
-
-pub put_routes-requires-clause-room : goal.put_routes-requires-clause-room
-put_routes-requires-clause-room c =
-    let at = (goal.at.put_routes-requires-clause-room c).After-take_inputs-given in
-    put_room c.args.set.now c.args.p.0 (Switch c.args.unit.now.state) (values at) c.args.wires.now c.take_inputs-given.new.self _ (sent at) c.requires.stands.valid.small_depth (took at)
+pub returns-in_default-clause-turn : goal.returns-in_default-clause-turn
+returns-in_default-clause-turn c =
+    let none = none_left c.route_switch.result c.in_default.not-Some in
+    switch_waits c.args.set.now c.args.p.0 c.args.unit.now.state c.args.table.now c.args.wires.now c.route_switch.new.wires (c.route_switch.ensures.waits none) (c.route_switch.ensures.stays none)
 
 fired : (c : After-fire_switch) (goes : Bool) → c.fire_switch.result ≡ Ok goes
-    → IsControl c.args.table.now c.args.unit.now.state (term_switch c.args.table.now (next_instruction c.switch_program.result.now c.args.unit.now.state) (length c.switch_program.result.now) c.args.unit.now.state c.take_inputs-given.result)
+    → IsControl c.args.table.now c.args.unit.now.state (term_switch c.args.table.now (next_instruction c.switch_program.result.now c.args.unit.now.state) (length c.switch_program.result.now) c.args.unit.now.state c.in-Some.given)
     goes c.fire_switch.new.table c.fire_switch.new.state
 fired c goes e =
-    subst (λ r. IfOk r (λ goes. IsControl c.args.table.now c.args.unit.now.state (term_switch c.args.table.now (next_instruction c.switch_program.result.now c.args.unit.now.state) (length c.switch_program.result.now) c.args.unit.now.state c.take_inputs-given.result) goes c.fire_switch.new.table c.fire_switch.new.state))
+    subst (λ r. IfOk r (λ goes. IsControl c.args.table.now c.args.unit.now.state (term_switch c.args.table.now (next_instruction c.switch_program.result.now c.args.unit.now.state) (length c.switch_program.result.now) c.args.unit.now.state c.in-Some.given) goes c.fire_switch.new.table c.fire_switch.new.state))
     e c.fire_switch.ensures.fired
 
 pub returns-in-Ok-true-clause-turn : goal.returns-in-Ok-true-clause-turn
 returns-in-Ok-true-clause-turn c =
-    let at = (goal.at.returns-in-Ok-true-clause-turn c).After-take_inputs-given in
+    let routed = c.in-Some.ensures.routes in
     let yes : c.fire_switch.result ≡ Ok true = cc in
-    switch_fired c.args.set.now c.args.p.0 c.args.unit.now.state c.args.table.now c.args.wires.now c.take_inputs-given.new.self c.switch_program.result.now c.take_inputs-given.result (values at)
-    c.switch_program.ensures c.requires.going (took at) (given at) c.fire_switch.new.table c.fire_switch.new.state c.put_routes.new.self
-    (c.put_routes.ensures ∙ ap (λ (ms : List Sent). appended ms c.take_inputs-given.new.self) (sent at)) (fired (goal.at.returns-in-Ok-true-clause-turn c).After-fire_switch true yes)
+    switch_fired c.args.set.now c.args.p.0 c.args.unit.now.state c.args.table.now c.args.wires.now routed.left c.switch_program.result.now c.in-Some.given routed.values
+    c.switch_program.ensures c.requires.going routed.took routed.given_is c.fire_switch.new.table c.fire_switch.new.state c.route_switch.new.wires routed.later_is (fired (goal.at.returns-in-Ok-true-clause-turn c).After-fire_switch true yes)
 
 pub returns-in-Ok-false-clause-turn : goal.returns-in-Ok-false-clause-turn
 returns-in-Ok-false-clause-turn c =
-    let at = (goal.at.returns-in-Ok-false-clause-turn c).After-take_inputs-given in
+    let routed = c.in-Some.ensures.routes in
     let no : c.fire_switch.result ≡ Ok false = cc in
-    switch_hung c.args.set.now c.args.p.0 c.args.unit.now.state c.args.table.now c.args.wires.now c.take_inputs-given.new.self c.switch_program.result.now c.take_inputs-given.result (values at)
-    c.switch_program.ensures c.requires.going (took at) (given at) c.fire_switch.new.table c.fire_switch.new.state (fired (goal.at.returns-in-Ok-false-clause-turn c).After-fire_switch false no)
+    switch_hung c.args.set.now c.args.p.0 c.args.unit.now.state c.args.table.now c.args.wires.now routed.left c.switch_program.result.now c.in-Some.given routed.values
+    c.switch_program.ensures c.requires.going routed.took routed.given_is c.fire_switch.new.table c.fire_switch.new.state (fired (goal.at.returns-in-Ok-false-clause-turn c).After-fire_switch false no)
 
 pub returns-in-Err-TooMany-clause-turn : goal.returns-in-Err-TooMany-clause-turn
 returns-in-Err-TooMany-clause-turn c =
-    let at = (goal.at.returns-in-Err-TooMany-clause-turn c).After-take_inputs-given in
+    let routed = c.in-Some.ensures.routes in
     let over : c.fire_switch.result ≡ Err TooMany = cc in
-    switch_over c.args.set.now c.args.p.0 c.args.unit.now.state c.args.table.now c.args.wires.now c.take_inputs-given.new.self c.switch_program.result.now c.take_inputs-given.result (values at)
-    c.switch_program.ensures c.requires.going (took at) (given at) (c.fire_switch.ensures.too_many over)
+    switch_over c.args.set.now c.args.p.0 c.args.unit.now.state c.args.table.now c.args.wires.now routed.left c.switch_program.result.now c.in-Some.given routed.values
+    c.switch_program.ensures c.requires.going routed.took routed.given_is (c.fire_switch.ensures.too_many over)

@@ -5,7 +5,7 @@ use Rattle.raw_row_terms.specs.RowClaims.{HasPortsOf}
 use Rattle.raw_cut.specs.declared.extent.Extent.{Extent}
 use Rattle.raw_cut.specs.Live.{IsMetFrom}
 use Rattle.raw_stream_choice.specs.PortNumbers.{numbered}
-use Rattle.raw_stream_choice.proofs.Choices.{held}
+use Rattle.raw_cut.proofs.Copies.{some_so}
 use Rattle.raw_stream_choice.proofs.MetRows.{met_rows}
 use Rattle.raw_stream_choice.proofs.Twins.{is_named, has_ports}
 use Rattle.raw_stream_choice.proofs.endless.meets_twin.Goals as goal
@@ -29,4 +29,4 @@ pub returns-in-Some : goal.returns-in-Some
 returns-in-Some c = λ yes.
     let extent : Extent = c.in-Some.extent in
     met_rows c.args.stream.now c.args.set.now extent (c.is_long.ensures yes)
-    (subst (λ (t : Stream). IsMetFrom c.args.set.now t extent.least extent.most extent.lacks.items) c.requires.twin (held _ c.in_ok-extent.field-0 extent c.in-Some.is c.in_ok-extent.ensures))
+    (subst (λ (t : Stream). IsMetFrom c.args.set.now t extent.least extent.most extent.lacks.items) c.requires.twin (some_so _ c.in_ok-extent.field-0 extent c.in-Some.is c.in_ok-extent.ensures))

@@ -8,12 +8,14 @@ use Rattle.raw_processor.specs.Processor.{local_of}
 use Rattle.raw_fabric_rule.specs.ByEnds.{procs}
 use Rattle.raw_fabric_step.specs.Units.{first_log}
 use Rattle.raw_steps.specs.Taking.{numbers}
+use Rattle.raw_fabric.specs.Answers.{CanStep}
 use Rattle.raw_fabric.specs.Opened.{about_of}
 use Rattle.raw_fabric.specs.declared.answer.FabricTurn.TheVariants.{Stopped, LogFull}
 use Rattle.raw_fabric.proofs.Owed.{owing_after}
 use Rattle.raw_fabric.proofs.Firing.{turn_leaves, turn_log, fired_log}
 use Rattle.raw_fabric.proofs.Called.{here, here_at, unit_at, stands_at, stop_at, no_turn, turn_left, pass_left}
 use Rattle.raw_fabric.proofs.fabric.Fabric.try_fire_at.Goals as goal
+use Rattle.raw_fabric.proofs.fabric.Fabric.try_fire_at.Goals.{After-turn_unit-turn}
 
 pub is_stopped-requires : goal.is_stopped-requires
 is_stopped-requires c =
@@ -94,37 +96,33 @@ returns-else-has_fired-clause-pass c =
     pass_left c.args.self.now pass post r c.requires.post _ x y refl c.turn_unit-turn.new.status e.left.same refl refl refl (turn_leaves a post.p post.index turn v w x y e.turn) e.unit e.left.ready
     (turn_log a post.p post.index turn v w x y e.turn (sym c.has_fired.ensures ∙ c.if-has_fired.false) ∙ r.pass.log_is) r.pass.log_room r.pass.log_short
 
-pub returns-then-has_fired-clause-turn : goal.returns-then-has_fired-clause-turn
-returns-then-has_fired-clause-turn c =
+-- it may step
+can : (c : After-turn_unit-turn) → CanStep (about_of c.args.self.now) c.args.post.now.p c.args.pass.now.room c.args.pass.now.seat.me.0 c.index_mut-2.result.now
+can c =
     let r = c.requires.stands in
     let f = c.args.self.now in
     let pass = c.args.pass.now in
     let post = c.args.post.now in
     let x = c.index_mut-2.result.now in
-    let read = c.index_mut-2.ensures.value in
     let ok = pass.log.steps.ok in
     let len = c.len.ensures in
     let room = c.if-len-pass.false in
     let short = r.pass.log_short in
     let long = ap length r.pass.log_is ∙ length-map pass.log.steps.items (λ (q : ProcId). q.0) in
-    let going = stop_at f pass post r c.requires.post c.index.result.now x false c.index.ensures (here f pass post r c.requires.post x read) (sym c.is_stopped.ensures ∙ c.if-is_stopped.false) in
-    turn_left f pass post r c.requires.post _ x c.turn_unit-turn.new.processor refl c.turn_unit-turn.result read refl (record { going = going; short = omega arith }) c.turn_unit-turn.ensures.turn
+    record {
+      going = stop_at f pass post r c.requires.post c.index.result.now x false c.index.ensures (here f pass post r c.requires.post x c.index_mut-2.ensures.value) (sym c.is_stopped.ensures ∙ c.if-is_stopped.false);
+      short = omega arith;
+    }
+
+pub returns-then-has_fired-clause-turn : goal.returns-then-has_fired-clause-turn
+returns-then-has_fired-clause-turn c =
+    turn_left c.args.self.now c.args.pass.now c.args.post.now c.requires.stands c.requires.post _ c.index_mut-2.result.now c.turn_unit-turn.new.processor refl c.turn_unit-turn.result c.index_mut-2.ensures.value refl
+    (can (goal.at.returns-then-has_fired-clause-turn c).After-turn_unit-turn) c.turn_unit-turn.ensures.turn
 
 pub returns-else-has_fired-clause-turn : goal.returns-else-has_fired-clause-turn
 returns-else-has_fired-clause-turn c =
-    let r = c.requires.stands in
-    let f = c.args.self.now in
-    let pass = c.args.pass.now in
-    let post = c.args.post.now in
-    let x = c.index_mut-2.result.now in
-    let read = c.index_mut-2.ensures.value in
-    let ok = pass.log.steps.ok in
-    let len = c.len.ensures in
-    let room = c.if-len-pass.false in
-    let short = r.pass.log_short in
-    let long = ap length r.pass.log_is ∙ length-map pass.log.steps.items (λ (q : ProcId). q.0) in
-    let going = stop_at f pass post r c.requires.post c.index.result.now x false c.index.ensures (here f pass post r c.requires.post x read) (sym c.is_stopped.ensures ∙ c.if-is_stopped.false) in
-    turn_left f pass post r c.requires.post _ x c.turn_unit-turn.new.processor refl c.turn_unit-turn.result read refl (record { going = going; short = omega arith }) c.turn_unit-turn.ensures.turn
+    turn_left c.args.self.now c.args.pass.now c.args.post.now c.requires.stands c.requires.post _ c.index_mut-2.result.now c.turn_unit-turn.new.processor refl c.turn_unit-turn.result c.index_mut-2.ensures.value refl
+    (can (goal.at.returns-else-has_fired-clause-turn c).After-turn_unit-turn) c.turn_unit-turn.ensures.turn
 
 pub returns-then-has_fired-clause-owing : goal.returns-then-has_fired-clause-owing
 returns-then-has_fired-clause-owing c =

@@ -10,7 +10,7 @@ use Rattle.raw_prove.specs.Units.{state_of}
 use Rattle.raw_cut.specs.Cuts.{cut_of}
 use Rattle.raw_cut.proofs.Copies.{map_take, some_so}
 use Rattle.raw_cut.proofs.Facing.{begun_from}
-use Rattle.raw_cut.proofs.leading.begun.Goals as goal
+use Rattle.raw_cut.proofs.leading.begin_at.Goals as goal
 
 pub returns-clause-state : goal.returns-clause-state
 returns-clause-state c =
