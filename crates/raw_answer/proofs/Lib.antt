@@ -1,0 +1,4 @@
+-- The proofs that something has one answer.
+pub mod Places
+pub mod Texts
+pub mod Made
