@@ -1,9 +1,6 @@
 mod Mid
 mod Telling
 mod Texts
-mod Sending
-mod Ending
-mod Touching
 mod Resting
 mod Fired
 mod Untouched

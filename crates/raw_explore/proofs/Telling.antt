@@ -21,6 +21,7 @@ use Rattle.raw_model.proofs.Awaited.{none_where_stopped}
 use Rattle.raw_serial.specs.declared.turn.Turn.{Turn}
 use Rattle.raw_serial.specs.declared.turn.Turn.TheVariants.{Fired, Stalled, Stopped, Waits}
 use Rattle.raw_serial.specs.Running.{Running}
+use Rattle.raw_serial.specs.Told.{missed_by, missed_at}
 use Rattle.raw_serial.proofs.Placed.{placed}
 use Rattle.raw_lockstep.specs.Stalls.{without_stalls, touched_by}
 use Rattle.raw_lockstep.proofs.Stalling.{without_unpaid, untouched, law_steps_of_turns, touched_here}
@@ -33,7 +34,6 @@ use Rattle.raw_clock.proofs.Clocking.{clock_fits, clock_length}
 use Rattle.raw_trace.specs.Parts.{pc_of}
 use Rattle.raw_trace.specs.Firing.{entries_from, step_entries, miss_cost}
 use Rattle.raw_trace.specs.Lines.{Fires, Stopping, firing_entries, next_pc, turn_line, is_told, told_line}
-use Rattle.raw_explore.specs.Looking.{missed_by, missed_at}
 use Rattle.raw_explore.specs.Engine.{Took, IsTurnStill, HasTurn, line_by, lines_by}
 use Rattle.raw_trace.proofs.Turns.{stopped_stops, same_mark}
 use Rattle.raw_explore.proofs.Mid.{turn_taken, owes_mid, touched_mid, machine_mid, stopped_mid, enabled_mid, turn_mid, event_mid}

@@ -20,13 +20,13 @@ use Rattle.raw_clock.specs.Values.{HaveSent}
 use Rattle.raw_processor.specs.declared.processor.Processor.{Processor}
 use Rattle.raw_processor.specs.declared.processor.Processor.TheVariants as a
 use Rattle.raw_serial.specs.Fresh.{IsFresh}
+use Rattle.raw_serial.specs.Told.{missed_at}
 use Rattle.raw_clock.specs.Engine.{HasTaken}
 use Rattle.raw_whole.specs.declared.gathering.Whole.{Whole}
 use Rattle.raw_whole.specs.Kept.{IsWhole}
 use Rattle.raw_trace.specs.Parts.{pc_of}
 use Rattle.raw_trace.specs.Firing.{step_entries}
 use Rattle.raw_trace.specs.Lines.{Line, Fires, Stalls, Waiting, Stopping, is_told, turn_before}
-use Rattle.raw_explore.specs.Looking.{missed_at}
 
 -- the machine stands where the clock of its set is after k cycles
 abbrev pub IsAt : Running → ℕ → Type 0
