@@ -100,7 +100,7 @@ fn stores(machine: &Machine<'_>, p: ProcId) -> bool
 
 // Whether an instruction is there and stores.
 fn next_stores(ins: Option<&TileIns>) -> bool
-    ensures { result ≡ is_store_next (option_map (λ ins. ins.now) ins) }
+    ensures { result ≡ is_store_next (option_map (λ ins. ins.now) ins.entry) }
 {
     match ins {
         Some(ins) => is_store(ins.op),

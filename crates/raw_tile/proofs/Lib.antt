@@ -1,4 +1,4 @@
 mod Operands
 pub mod Stored
 mod Zeros
-mod Touched
+pub mod Touched
