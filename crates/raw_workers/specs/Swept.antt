@@ -20,6 +20,6 @@ pub record IsPassOf (fabric : Fabric) (pass : Pass) : Type 0 where
   pub pass_is : IsPass (about_of fabric) (id_of fabric) pass.log.worker pass
 
 -- the pass of that worker after turns that came to this
-pub record IsSweptPass (fabric : Fabric) (swept : Swept) (old new : Pass) : Type 0 where
+pub record IsSweptPass (fabric : Fabric) (how : Swept) (old new : Pass) : Type 0 where
   pub pass : IsPass (about_of fabric) (id_of fabric) old.log.worker new
-  pub swept : HasSwept swept old new
+  pub swept : HasSwept how old new
