@@ -121,7 +121,14 @@ fn cut_at(
         &start,
         bounds.many,
     )?;
-    let Some(Begun { mut machine, rows }) = begins else {
+    let Some(
+        Begun {
+            mut machine,
+            rows,
+            ..
+        },
+    ) = begins
+    else {
         return Ok(None);
     };
     let Some(run) = values_of(alloc, &mut machine.table, &extended, &nodes, &rows)? else {
