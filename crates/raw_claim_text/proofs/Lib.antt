@@ -3,4 +3,4 @@ pub mod Lines
 pub mod Adding
 pub mod Reading
 pub mod Ports
-pub mod OneText
+pub mod Behind

@@ -1,11 +1,13 @@
 -- What lines of a claim say with one more, and that they mean one thing or have one least fault.
-use Rattle.std.proofs.Common.{◌≡◌, ℕ, ◌+◌, ◌<◌, ◌≤◌, Bool, true, false, cond, List, [], ◌∷◌, ◌++◌, length, get_or, map, take, Option, Some, None, Result, Ok, Err, refl, sym, ap, ap₂, ◌∙◌, subst, arith}
+use Rattle.std.proofs.Common.{◌≡◌, ℕ, ◌+◌, ◌<◌, Bool, true, false, cond, List, [], ◌∷◌, ◌++◌, length, get_or, map, take, Option, Some, None, Result, Ok, Err, refl, sym, ap, ap₂, ◌∙◌, subst, arith}
 use Rattle.std.specs.Option.{option_or, option_to_list}
 use Rattle.std.specs.List.{filter_map}
 use Rattle.std.proofs.lemmas.Bool.{lt-ltb, le-ltb}
 use Rattle.std.proofs.lemmas.Option.{none-some}
 use Rattle.std.proofs.lemmas.List.{length-map, map-append, take-map, get_or-map, get_or_past, take_more}
 use Rattle.std.proofs.Math.Seq.{take-length}
+use Rattle.raw_answer.specs.Places.{AreFaultless}
+use Rattle.raw_answer.proofs.Places.{one_answer}
 use Rattle.raw_grid.specs.Topology.{Topology}
 use Rattle.raw_set_text.specs.declared.kind.SetKind.{SetKind}
 use Rattle.raw_flow_text.specs.Forms.{line_statement}
@@ -13,11 +15,10 @@ use Rattle.raw_flow_text.specs.Flows.{IsFed}
 use Rattle.raw_flow_text.specs.Faults as flow_line
 use Rattle.raw_flow_text.specs.Meaning as flow
 use Rattle.raw_flow_text.proofs.Next.{filter_next}
-use Rattle.raw_flow_text.proofs.Least.{has_one}
 use Rattle.raw_term.specs.declared.place.Place.{Place}
 use Rattle.raw_claim_text.specs.Forms.{plain_line}
 use Rattle.raw_claim_text.specs.Placing.{SaidPlaces, place_said, with_line, said_from, said_places, said_in, says_missing, line_fault}
-use Rattle.raw_claim_text.specs.Lines.{size_of, fault_at, AreFaultless, placed_in, HasOneAnswer}
+use Rattle.raw_claim_text.specs.Lines.{size_of, fault_at, placed_in, IsOneClaim}
 
 -- ---- one line more
 
@@ -82,17 +83,17 @@ module _ (topo : Topology) (lines : List (List (List ℕ))) where
       ap₂ (λ f line. line_fault f (place_said topo (said_places topo (take (length lines) lines)) line)) flow_end (get_or_past lines (length lines) [] (omega arith))
       ∙ or_none (flow_line.end_fault (said_in lines))
 
-  faultless_flow : (n : ℕ) → AreFaultless topo lines n → flow.AreFaultless wanted plain n
+  faultless_flow : (n : ℕ) → AreFaultless (fault_at topo lines) n → AreFaultless (flow.fault_at wanted plain) n
   unfolding fault_at
   faultless_flow n faultless = λ k below. flow_free (flow.fault_at wanted plain k) (place_said topo (said_places topo (take k lines)) (get_or lines k [])) (faultless k below)
 
-  pub fed_is_lawful : flow.HasOneAnswer wanted plain → AreFaultless topo lines (length lines + 1) → IsFed (placed_in topo lines).fed
-  fed_is_lawful answer faultless =
-      answer.lawful (flow.fed_in plain) (record { faultless = subst (λ n. flow.AreFaultless wanted plain (n + 1)) (sym each) (faultless_flow (length lines + 1) faultless); is = refl })
-
-  pub one_answer : flow.HasOneAnswer wanted plain → HasOneAnswer topo lines
-  one_answer answer = has_one (fault_at topo lines) (length lines) (placed_in topo lines) (λ claim. IsFed claim.fed) (fed_is_lawful answer)
+  pub fed_is_lawful : (from : ℕ) → flow.IsOneFlow wanted from plain → AreFaultless (fault_at topo lines) (length lines + 1) → IsFed (placed_in topo lines).fed
+  fed_is_lawful from answer faultless =
+      answer.valid (flow.fed_in plain) (record { faultless = subst (λ n. AreFaultless (flow.fault_at wanted plain) (n + 1)) (sym each) (faultless_flow (length lines + 1) faultless); is = refl })
 
   -- the lines so far, with one more
   pub take_next : (k : ℕ) → k < length lines → take (k + 1) lines ≡ take k lines ++ get_or lines k [] ∷ []
   take_next k lt = take_more lines k [] lt
+
+pub one_claim : (topo : Topology) (from : ℕ) (lines : List (List (List ℕ))) → flow.IsOneFlow (Some (size_of topo)) from (map plain_line lines) → IsOneClaim topo from lines
+one_claim topo from lines answer = one_answer (fault_at topo lines) (length lines) from (placed_in topo lines) (λ claim. IsFed claim.fed) (fed_is_lawful topo lines from answer)

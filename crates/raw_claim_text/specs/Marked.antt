@@ -1,4 +1,4 @@
--- A set before a mark: a line whose only token is some word.
+-- A set before a mark, which is a line whose only token is some word, and more lines behind it.
 use Rattle.std.specs.Prelude.{◌≡◌, ◌⊎◌, ℕ, ◌+◌, List, length, take, Option, Some, None}
 use Rattle.std.specs.List.{position}
 use Rattle.raw_text.specs.Text.{is_word}
@@ -23,3 +23,18 @@ pub record LacksMark (lines : List (List (List ℕ))) (line : ℕ) (kind : SetKi
 abbrev pub FaultBefore : Option ℕ → List (List (List ℕ)) → ℕ → SetKind → Type 0
 FaultBefore (Some place) lines line kind = IsCause (take place lines) (At line kind)
 FaultBefore None lines line kind = IsCause lines (At line kind) ⊎ LacksMark lines line kind
+
+-- the lines say this set and more: those before the mark mean the set, and those behind it, where it is at this place, say more of that set
+pub record IsBehind {T : Type 0} (word : List ℕ) (Tail : List (List (List ℕ)) → ℕ → ProgramSet → T → Type 0) (lines : List (List (List ℕ))) (said : ProgramSet × T) : Type 0 where
+  pub place : ℕ
+  pub mark : mark_in word lines ≡ Some place
+  pub set_is : IsMeaning (take place lines) said.0
+  pub tail_is : Tail lines place said.0 said.1
+
+-- the lines before the mark mean a set, and this is wrong with those behind it
+pub record IsFaultBehind {K : Type 0} (word : List ℕ) (Wrong : List (List (List ℕ)) → ℕ → ProgramSet → ℕ → K → Type 0) (lines : List (List (List ℕ))) (line : ℕ) (kind : K) : Type 0 where
+  pub place : ℕ
+  pub mark : mark_in word lines ≡ Some place
+  pub set : ProgramSet
+  pub set_is : IsMeaning (take place lines) set
+  pub wrong : Wrong lines place set line kind

@@ -6,7 +6,6 @@ ghost use Rattle.raw_claim_text.specs.Texts.{IsOneText};
 pub fn law_one_text()
     ensures { (bytes : List ℕ) → IsOneText bytes }
 {
-    raw_set_text::law_one_text();
     raw_set_text::law_one_answer();
     raw_flow_text::law_one_answer();
 }

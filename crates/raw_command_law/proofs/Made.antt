@@ -74,9 +74,9 @@ module _ (one : (form : InputForm) (input : List ℕ) → IsOneInput form input)
         meaning = made.meaning;
         taken = λ workers. takes_listed list.set text workers lawful list.written;
         runs = λ workers output next (run : IsRunOutput (State Report) set_form.Text text output next).
-            let same : run.set ≡ planned = run_is list.set text output next lawful list.written run ∙ made.set_is in
+            let same : run.set ≡ planned = run_is list.set text output next lawful list.written run ∙ made.is in
             let is_run : IsRun planned run.steps = subst (λ set. IsRun set run.steps) same run.run in
-            let delivered = delivers plan.cols plan.rows (sendings plan.hauls plan.words) (subst IsSet made.set_is lawful) (one_text.valid plan made.meaning).sends run.steps is_run in
+            let delivered = delivers plan.cols plan.rows (sendings plan.hauls plan.words) (subst IsSet made.is lawful) (one_text.valid plan made.meaning).sends run.steps is_run in
             record {
               steps = run.steps;
               run = is_run;
@@ -92,15 +92,15 @@ module _ (one : (form : InputForm) (input : List ℕ) → IsOneInput form input)
       let placed : PlacedFlow = made.meant in
       let compiled : ProgramSet = compiled_of placed in
       let lawful : IsSet list.set = (one form.Flow input).lawful list.set made in
-      let valid = one_text.lawful placed made.meaning in
+      let valid = one_text.valid placed made.meaning in
       record {
         placed = placed;
         meaning = made.meaning;
         taken = λ workers. takes_listed list.set text workers lawful list.written;
         runs = λ workers output next (run : IsRunOutput (State Report) set_form.Text text output next).
-            let same : run.set ≡ compiled = run_is list.set text output next lawful list.written run ∙ made.set_is in
+            let same : run.set ≡ compiled = run_is list.set text output next lawful list.written run ∙ made.is in
             let is_run : IsRun compiled run.steps = subst (λ set. IsRun set run.steps) same run.run in
-            let right = is_right placed.flow placed.ports placed.inputs valid.flow valid.ports valid.inputs (subst IsSet made.set_is lawful) run.steps is_run in
+            let right = is_right placed.flow placed.ports placed.inputs valid.flow valid.ports valid.inputs (subst IsSet made.is lawful) run.steps is_run in
             record {
               steps = run.steps;
               run = is_run;
@@ -147,7 +147,7 @@ module _ (one : (form : InputForm) (input : List ℕ) → IsOneInput form input)
       let fed : FedFlow = made.fed in
       let choice = made.choice in
       let own = own_words fed.flow fed.inputs set choice.same in
-      let are = are_words fed.flow fed.inputs set choice.same (one_text.lawful fed made.meaning).inputs in
+      let are = are_words fed.flow fed.inputs set choice.same (one_text.valid fed made.meaning).inputs in
       record {
         fed = fed;
         meaning = made.meaning;
@@ -162,7 +162,7 @@ module _ (one : (form : InputForm) (input : List ℕ) → IsOneInput form input)
   stream_runs input text set one_text its_words made listed =
       let fed : FedStream = made.fed in
       let is = made.choice.is in
-      let valid = one_text.lawful fed made.meaning in
+      let valid = one_text.valid fed made.meaning in
       let has : HasItsWords fed.stream fed.words set = its_words fed.stream fed.words set valid.enough is.same in
       record {
         fed = fed;

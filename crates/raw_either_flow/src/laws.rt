@@ -6,7 +6,7 @@ ghost use Rattle.raw_either_flow.specs.Texts.{IsOneText};
 pub fn law_one_text()
     ensures { (bytes : List ℕ) → IsOneText bytes }
 {
-    raw_flow_text::law_one_text();
-    raw_stream_text::law_one_text();
+    raw_flow_text::law_one_answer();
+    raw_stream_text::law_one_answer();
     raw_unroll::law_placed();
 }

@@ -13,6 +13,7 @@ use Rattle.std.proofs.lemmas.Option.{none-some, slice_get_within, get_or_from_sl
 use Rattle.std.proofs.Math.Seq.{get_or-append_seam}
 use Rattle.std.proofs.Math.ListN.{get_or-append}
 use Rattle.raw_asm.specs.NameTable.{named_in}
+use Rattle.raw_answer.specs.Places.{AreFaultless}
 use Rattle.raw_set_text.specs.declared.kind.SetKind.TheVariants.{Missing, BadLine, BadSize, Repeated, OverLimit, Asm}
 use Rattle.raw_asm.specs.declared.kind.AsmKind.TheVariants.{UnknownName}
 use Rattle.raw_set_text.specs.Forms.{◌>>=◌, number_at}
@@ -33,7 +34,7 @@ use Rattle.raw_flow_text.specs.Statement.Statement.{Grid, Input, Const, Apply, O
 use Rattle.raw_flow_text.specs.Forms.{word_name, all_words, name_at, op_at, grid_form, input_form, const_form, apply_form, out_form, worded_form, line_statement}
 use Rattle.raw_flow_text.specs.Flows.{IsFed, size_of, size_in, name_of, names_in, number_in, node_number, node_of, out_of, nodes_in, outs_in, word_of, words_in, fed_by}
 use Rattle.raw_flow_text.specs.Faults.{has_name, is_unwanted, statement_fault, form_fault, is_missing, line_fault, end_fault}
-use Rattle.raw_flow_text.specs.Meaning.{said_before, fault_at, AreFaultless}
+use Rattle.raw_flow_text.specs.Meaning.{said_before, fault_at}
 use Rattle.raw_flow_text.proofs.Next.{filter_next, given_next, count, said_next}
 
 -- the word in a statement fits
@@ -252,7 +253,7 @@ none_said = record {
 }
 
 -- the first lines, where none of them has a fault
-sound_before : (wanted : Option (ℕ × ℕ)) (lines : List (List (List ℕ))) (k : ℕ) → k ≤ length lines → AreFaultless wanted lines k → AreSound (parts_of (said_before lines k))
+sound_before : (wanted : Option (ℕ × ℕ)) (lines : List (List (List ℕ))) (k : ℕ) → k ≤ length lines → AreFaultless (fault_at wanted lines) k → AreSound (parts_of (said_before lines k))
 unfolding fault_at
 sound_before wanted lines zero l faultless = none_said
 sound_before wanted lines (suc k) l faultless =
@@ -286,10 +287,10 @@ fed_is_lawful said are none =
     }
 
 -- where no line has a fault, and nothing is wrong at the end
-pub ended_fed : (wanted : Option (ℕ × ℕ)) (lines : List (List (List ℕ))) → AreFaultless wanted lines (length lines) → end_fault (said_before lines (length lines)) ≡ None → IsFed (fed_by (said_before lines (length lines)))
+pub ended_fed : (wanted : Option (ℕ × ℕ)) (lines : List (List (List ℕ))) → AreFaultless (fault_at wanted lines) (length lines) → end_fault (said_before lines (length lines)) ≡ None → IsFed (fed_by (said_before lines (length lines)))
 ended_fed wanted lines faultless ended = fed_is_lawful (said_before lines (length lines)) (sound_before wanted lines (length lines) (omega arith) faultless) ended
 
-pub faultless_fed : (wanted : Option (ℕ × ℕ)) (lines : List (List (List ℕ))) → AreFaultless wanted lines (length lines + 1) → IsFed (fed_by (said_before lines (length lines)))
+pub faultless_fed : (wanted : Option (ℕ × ℕ)) (lines : List (List (List ℕ))) → AreFaultless (fault_at wanted lines) (length lines + 1) → IsFed (fed_by (said_before lines (length lines)))
 unfolding fault_at
 faultless_fed wanted lines faultless =
     let last : end_fault (said_before lines (length lines)) ≡ None = rw (le-ltb (length lines) (length lines) (omega arith)) at (faultless (length lines) (omega arith)) in

@@ -3,7 +3,7 @@ pub mod Statement
 pub mod Forms
 pub mod Flows
 pub mod Faults
-pub mod Least
+pub mod Causes
 pub mod Meaning
 pub mod Texts
 pub mod Building

@@ -1,45 +1,41 @@
--- An input means at most one set, and where it means one it has no fault, by what is so of texts, of images, of plans and of flows.
-use Rattle.std.proofs.Common.{◌≡◌, ◌∙◌, ℕ, List, sym, ap, subst, ⊎_elim, inl, inr}
-use Rattle.raw_model.specs.Program.{ProgramSet, IsSet}
-use Rattle.raw_set_text.specs.declared.kind.SetKind.{SetKind}
-use Rattle.raw_set_text.specs.Texts.{Meaning, Fault, HasMeaning, IsOneText}
+-- An input means one set, or has one fault, by what is so of texts and of images.
+use Rattle.std.proofs.Common.{◌≡◌, ◌⊎◌, ◌∙◌, ℕ, List, sym, inl, inr, ⊎_elim}
+use Rattle.raw_model.specs.Program.{ProgramSet}
 use Rattle.raw_image.specs.declared.kind.ImageKind.{ImageKind}
 use Rattle.raw_image.specs.Image.{Image, ImageFault}
+use Rattle.raw_image.specs.Answers as image
+use Rattle.raw_inputs.specs.declared.form.InputForm.{InputForm}
 use Rattle.raw_inputs.specs.declared.form.InputForm.TheVariants as form
-use Rattle.raw_inputs.specs.declared.flaw.LineKind.TheVariants.{Set}
+use Rattle.raw_inputs.specs.declared.flaw.LineKind.{LineKind}
 use Rattle.raw_inputs.specs.declared.flaw.Refusal.{Refusal}
 use Rattle.raw_inputs.specs.declared.flaw.Refusal.TheVariants as refusal
-use Rattle.raw_inputs.specs.Inputs.{HasFault, IsOneInput, planned_of, compiled_of, Makes, MakesTooMany}
-use Rattle.raw_codegen.specs.Limits.{AreShort}
-use Rattle.raw_route.specs.Planned.{sendings}
-use Rattle.raw_route.specs.Laws as route
-use Rattle.raw_plan_text.specs.Plans.{HaulPlan}
-use Rattle.raw_plan_text.specs.Texts.{PlanMeaning, IsOnePlanText}
-use Rattle.raw_flow.specs.Right as flow
-use Rattle.raw_either_flow.specs.Placed.{PlacedFlow}
-use Rattle.raw_either_flow.specs.Texts.{EitherMeaning}
-use Rattle.raw_either_flow.specs.Texts as either
+use Rattle.raw_inputs.specs.Inputs.{Means, HasLineFault, HasFault, MeansOrFails, HasOneFault, IsOneInput, IsOneSet}
 
--- ---- texts and images
+-- ---- texts
+module _ (written : InputForm) (input : List ℕ) (no_image : (offset : ℕ) (kind : ImageKind) → HasFault written input (refusal.Image offset kind) → ⊥) (answer : IsOneSet written input) where
+  not_both : (set : ProgramSet) (fault : Refusal) → Means written input set → HasFault written input fault → ⊥
+  not_both set (refusal.Line line kind) means fault = answer.not_both set line kind means fault
+  not_both set (refusal.Image offset kind) means fault = no_image offset kind fault
 
--- a set that a text means keeps all that sets keep
-lawful_text : (input : List ℕ) → IsOneText input → (set : ProgramSet) → Meaning input set → IsSet set
-lawful_text input one set meaning =
-    ⊎_elim (λ (has : HasMeaning input). subst IsSet (one.one_set has.set set has.meaning meaning) has.valid)
-    (λ (fault : (line : ℕ) × (kind : SetKind) × Fault input line kind). absurd (one.not_both set fault.0 fault.1 meaning fault.2))
-    one.some
+  pub one_input : IsOneInput written input
+  one_input = record { one_set = answer.one_meaning; lawful = answer.valid; not_both = not_both }
 
-no_text_fault : (input : List ℕ) → IsOneText input → (set : ProgramSet) (refusal : Refusal) → Meaning input set → HasFault form.Text input refusal → ⊥
-no_text_fault input one set (refusal.Line line (Set kind)) meaning fault = one.not_both set line kind meaning fault
-no_text_fault input one set _ meaning fault = fault
+  pub means_or_fails : MeansOrFails written input
+  means_or_fails =
+      ⊎_elim (λ (means : (set : ProgramSet) × Means written input set). inl means)
+      (λ (fault : (line : ℕ) × (kind : LineKind) × HasLineFault written input line kind). inr (refusal.Line fault.0 fault.1, fault.2))
+      answer.some
 
-pub of_text : (input : List ℕ) → IsOneText input → IsOneInput form.Text input
-of_text input one = record { one_set = one.one_set; lawful = lawful_text input one; not_both = no_text_fault input one }
+  pub one_fault : HasOneFault written input
+  one_fault (refusal.Line i a) (refusal.Line j b) x y = let same = answer.one_fault i j a b x y in λ t. refusal.Line (same.0 t) (same.1 t)
+  one_fault (refusal.Line i a) (refusal.Image j b) x y = absurd (no_image j b y)
+  one_fault (refusal.Image i a) other x y = absurd (no_image i a x)
 
+-- ---- images
 no_image_fault : (input : List ℕ) → ((bytes : List ℕ) (set : ProgramSet) (offset : ℕ) (kind : ImageKind) → Image bytes set → ImageFault bytes offset kind → ⊥)
-    → (set : ProgramSet) (refusal : Refusal) → Image input set → HasFault form.Image input refusal → ⊥
+    → (set : ProgramSet) (fault : Refusal) → Image input set → HasFault form.Image input fault → ⊥
 no_image_fault input not_both set (refusal.Image offset kind) meaning fault = not_both input set offset kind meaning fault
-no_image_fault input not_both set _ meaning fault = fault
+no_image_fault input not_both set (refusal.Line line kind) meaning fault = fault
 
 pub of_image : (input : List ℕ) → ((bytes : List ℕ) (a b : ProgramSet) → Image bytes a → Image bytes b → a ≡ b)
     → ((bytes : List ℕ) (set : ProgramSet) (offset : ℕ) (kind : ImageKind) → Image bytes set → ImageFault bytes offset kind → ⊥)
@@ -50,42 +46,15 @@ of_image input one_set not_both = record {
   not_both = no_image_fault input not_both;
 }
 
--- ---- plans and flows
+pub either_image : (input : List ℕ) → image.HasOneAnswer input → MeansOrFails form.Image input
+either_image input (inl one) = inl (one.0, one.1.image)
+either_image input (inr one) = inr (refusal.Image one.0 one.1.0, one.1.1.fault)
 
--- what is made of one thing is one set, and not too long
-module _ {X : Type 0} (Meant : X → Type 0) (set_of : X → ProgramSet) (one : (a b : X) → Meant a → Meant b → a ≡ b) where
-  one_made : (a b : ProgramSet) → Makes Meant set_of a → Makes Meant set_of b → a ≡ b
-  one_made a b x y = x.set_is ∙ ap set_of (one x.meant y.meant x.meaning y.meaning) ∙ sym y.set_is
-
-  not_too_many : (set : ProgramSet) (input : List ℕ) (line : ℕ) (kind : SetKind) → Makes Meant set_of set → MakesTooMany Meant set_of input line kind → ⊥
-  not_too_many set input line kind x y = y.long (subst (λ z. AreShort (set_of z).tiles) (one x.meant y.meant x.meaning y.meaning) x.short)
-
-no_plan_fault : (input : List ℕ) → IsOnePlanText input → (set : ProgramSet) (fault : Refusal) → Makes (PlanMeaning input) planned_of set → HasFault form.Plan input fault → ⊥
-no_plan_fault input one set (refusal.Line line (Set kind)) made (inl fault) = one.not_both made.meant line kind made.meaning fault
-no_plan_fault input one set (refusal.Line line (Set kind)) made (inr long) = not_too_many (PlanMeaning input) planned_of one.one_plan set input line kind made long
-no_plan_fault input one set _ made fault = fault
-
-pub of_plan : (input : List ℕ) → IsOnePlanText input → route.EachIsSet → IsOneInput form.Plan input
-of_plan input one lawful = record {
-  one_set = one_made (PlanMeaning input) planned_of one.one_plan;
-  lawful = λ set made.
-      let plan : HaulPlan = made.meant in
-      let valid = one.valid plan made.meaning in
-      subst IsSet (sym made.set_is) (lawful plan.cols plan.rows (sendings plan.hauls plan.words) valid.lawful.size valid.sends made.short);
-  not_both = no_plan_fault input one;
-}
-
-no_flow_fault : (input : List ℕ) → either.IsOneText input → (set : ProgramSet) (fault : Refusal) → Makes (EitherMeaning input) compiled_of set → HasFault form.Flow input fault → ⊥
-no_flow_fault input one set (refusal.Line line (Set kind)) made (inl fault) = one.not_both made.meant line kind made.meaning fault
-no_flow_fault input one set (refusal.Line line (Set kind)) made (inr long) = not_too_many (EitherMeaning input) compiled_of one.one_flow set input line kind made long
-no_flow_fault input one set _ made fault = fault
-
-pub of_flow : (input : List ℕ) → either.IsOneText input → flow.EachPlacedIsSet → IsOneInput form.Flow input
-of_flow input one lawful = record {
-  one_set = one_made (EitherMeaning input) compiled_of one.one_flow;
-  lawful = λ set made.
-      let placed : PlacedFlow = made.meant in
-      let valid = one.lawful placed made.meaning in
-      subst IsSet (sym made.set_is) (lawful placed.flow placed.ports placed.inputs valid.flow valid.ports valid.inputs made.short);
-  not_both = no_flow_fault input one;
-}
+pub one_image : (input : List ℕ) → image.HasOneAnswer input → HasOneFault form.Image input
+one_image input (inl one) (refusal.Image i a) other x y = absurd (one.1.no_fault i a x)
+one_image input (inr one) (refusal.Image i a) (refusal.Image j b) x y =
+    let place = one.1.1.one_place i a x ∙ sym (one.1.1.one_place j b y) in
+    let kind = one.1.1.one_kind i a x ∙ sym (one.1.1.one_kind j b y) in
+    λ t. refusal.Image (place t) (kind t)
+one_image input (inr one) (refusal.Image i a) (refusal.Line j b) x y = absurd y
+one_image input one (refusal.Line i a) other x y = absurd x

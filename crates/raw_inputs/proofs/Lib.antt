@@ -1,5 +1,5 @@
-mod Behind
-mod Either
-mod Inputs
-mod OneFault
-mod SaidClaims
+pub mod Entries
+pub mod Limits
+pub mod Texts
+pub mod SaidClaims
+pub mod Inputs

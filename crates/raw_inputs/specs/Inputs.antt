@@ -1,15 +1,17 @@
 -- Which set an input means and where it has a fault, by how the set is written in it.
 use Rattle.std.specs.Prelude.{◌≡◌, ◌⊎◌, ℕ, ◌+◌, ◌≤◌, List, codes, length, take, drop, Option, Some, None}
-use Rattle.raw_text.specs.declared.lines.TextRefusal.{TextRefusal}
 use Rattle.raw_text.specs.Lines.{lines_of, first_fault}
 use Rattle.raw_text.specs.Text.{text_lines}
+use Rattle.raw_answer.specs.OneAnswer.{HasOneAnswer}
+use Rattle.raw_answer.specs.Texts.{TextFault}
+use Rattle.raw_answer.specs.Made.{Makes, MeansTooMuch}
 use Rattle.raw_lines.specs.Placing.{label_places}
 use Rattle.raw_grid.specs.Topology.{proc_count}
 use Rattle.raw_model.specs.Program.{ProgramSet, IsSet}
 use Rattle.raw_set_text.specs.declared.kind.SetKind.{SetKind}
-use Rattle.raw_set_text.specs.declared.kind.SetKind.TheVariants.{OverLimit}
+use Rattle.raw_set_text.specs.declared.kind.SetKind.TheVariants.{NotAscii, LineTooLong, OverLimit}
 use Rattle.raw_set_text.specs.Meaning.{IsMeaning}
-use Rattle.raw_set_text.specs.Texts.{Meaning, Fault, token_lines, FaultBehind}
+use Rattle.raw_set_text.specs.Texts.{Meaning, Fault, token_lines}
 use Rattle.raw_report.specs.History.{entries_of, IsBadEntry}
 use Rattle.raw_debug.specs.Commands.{LabelPlaces, bad_command}
 use Rattle.raw_codegen.specs.Limits.{AreShort}
@@ -20,13 +22,14 @@ use Rattle.raw_flow.specs.Compiled.{compiled_at}
 use Rattle.raw_stream_text.specs.Texts.{StreamFault}
 use Rattle.raw_either_flow.specs.Placed.{PlacedFlow}
 use Rattle.raw_either_flow.specs.Texts.{EitherMeaning, EitherFault}
-use Rattle.raw_claim_text.specs.Marked.{mark_in, FaultBefore}
+use Rattle.raw_claim_text.specs.Marked.{mark_in, FaultBefore, IsFaultBehind}
 use Rattle.raw_image.specs.Image.{Image, ImageFault}
 use Rattle.raw_inputs.specs.declared.marked.Scripted.{Scripted}
 use Rattle.raw_command_line.specs.declared.words.SetForm.{SetForm}
 use Rattle.raw_command_line.specs.declared.words.SetForm.TheVariants as set_form
 use Rattle.raw_inputs.specs.declared.form.InputForm.{InputForm}
 use Rattle.raw_inputs.specs.declared.form.InputForm.TheVariants as form
+use Rattle.raw_inputs.specs.declared.flaw.LineKind.{LineKind}
 use Rattle.raw_inputs.specs.declared.flaw.LineKind.TheVariants.{Set, BadEntry, BadCommand}
 use Rattle.raw_inputs.specs.declared.flaw.Refusal.{Refusal}
 use Rattle.raw_inputs.specs.declared.flaw.Refusal.TheVariants as refusal
@@ -43,20 +46,17 @@ planned_of plan = planned plan.cols plan.rows (sendings plan.hauls plan.words)
 abbrev pub compiled_of : PlacedFlow → ProgramSet
 compiled_of placed = compiled_at placed.flow placed.ports placed.inputs
 
--- an input means this, of which a set is made whose programs are within the limits, and this is the set
-pub record Makes {X : Type 0} (Meant : X → Type 0) (set_of : X → ProgramSet) (set : ProgramSet) : Type 0 where
-  pub meant : X
-  pub meaning : Meant meant
-  pub short : AreShort (set_of meant).tiles
-  pub set_is : set ≡ set_of meant
+-- the programs of the set that is made are within the limits
+abbrev pub IsShort : {X : Type 0} → (X → ProgramSet) → X → Type 0
+IsShort set_of x = AreShort (set_of x).tiles
 
--- an input means this, and the programs of the set that is made of it pass the limits; that is told behind the last line
-pub record MakesTooMany {X : Type 0} (Meant : X → Type 0) (set_of : X → ProgramSet) (input : List ℕ) (line : ℕ) (kind : SetKind) : Type 0 where
-  pub meant : X
-  pub meaning : Meant meant
-  pub long : ¬ (AreShort (set_of meant).tiles)
-  pub line_is : line ≡ length (lines_of input) + 1
-  pub kind_is : kind ≡ OverLimit
+-- an input means this, of which a set is made whose programs are within the limits, and this is the set
+abbrev pub MakesSet : {X : Type 0} → (X → Type 0) → (X → ProgramSet) → ProgramSet → Type 0
+MakesSet Meant set_of set = Makes Meant (IsShort set_of) set_of set
+
+-- its text has this fault, or it means this, and the programs of the set that is made of it pass the limits; that is told behind the last line
+abbrev pub MakesNone : {X : Type 0} → (X → Type 0) → (ℕ → SetKind → Type 0) → (X → ProgramSet) → List ℕ → ℕ → SetKind → Type 0
+MakesNone Meant Fault set_of input line kind = Fault line kind ⊎ MeansTooMuch Meant (IsShort set_of) (length (lines_of input) + 1) OverLimit line kind
 
 -- the lines of an input behind the mark at this place
 abbrev pub lines_behind : List ℕ → ℕ → List (List (List ℕ))
@@ -96,33 +96,33 @@ pub record IsScripted (input : List ℕ) (scripted : Scripted) : Type 0 where
   pub lines : text_lines scripted.text ≡ token_lines input
   pub within : scripted.from ≤ length (token_lines input)
 
--- what is wrong with the set, with this word as the mark, where the text has this first fault as a text: that one comes before all
--- others
-abbrev pub FaultOfMarked : List ℕ → Option TextRefusal → List (List (List ℕ)) → ℕ → SetKind → Type 0
-FaultOfMarked word (Some fault) lines line kind = FaultBehind (Some fault) lines line kind
-FaultOfMarked word None lines line kind = FaultBefore (mark_in word lines) lines line kind
+-- a fault that texts of sets have, where lines may be faulty in more ways
+abbrev pub OfSet : (ℕ → SetKind → Type 0) → ℕ → LineKind → Type 0
+OfSet Fault line (Set kind) = Fault line kind
+OfSet Fault line _ = ⊥
 
--- the lines before the mark mean a set, and this line behind it is the first that says no step of one of its processors
-pub record SaysNoStep (input : List ℕ) (line : ℕ) : Type 0 where
-  pub plain : first_fault 1 (lines_of input) ≡ None
-  pub place : ℕ
-  pub mark : mark_in (codes "history") (token_lines input) ≡ Some place
-  pub set : ProgramSet
-  pub meaning : IsMeaning (take place (token_lines input)) set
+-- the line behind the mark at this place is the first that is bad, counted from 0, and this is its kind
+pub record IsBadAt (IsBad : ℕ → Type 0) (place : ℕ) (why : LineKind) (line : ℕ) (kind : LineKind) : Type 0 where
   pub at : ℕ
-  pub bad : IsBadEntry (proc_count set.topo) (lines_behind input place) at
+  pub bad : IsBad at
   pub line_is : line ≡ place + 1 + at + 1
+  pub kind_is : kind ≡ why
 
--- the lines before the mark mean a set, and this line behind it is the first that is no command of a script on that set
-pub record SaysNoCommand (input : List ℕ) (line : ℕ) : Type 0 where
-  pub plain : first_fault 1 (lines_of input) ≡ None
-  pub place : ℕ
-  pub mark : mark_in (codes "script") (token_lines input) ≡ Some place
-  pub set : ProgramSet
-  pub meaning : IsMeaning (take place (token_lines input)) set
-  pub at : ℕ
-  pub bad : bad_command (labels_before set input place) set (lines_behind input place) ≡ Some at
-  pub line_is : line ≡ place + 1 + at + 1
+-- the first of the lines behind the mark that says no step of a processor of the set
+abbrev pub NoStep : List (List (List ℕ)) → ℕ → ProgramSet → ℕ → LineKind → Type 0
+NoStep lines place set line kind = IsBadAt (IsBadEntry (proc_count set.topo) (drop (place + 1) lines)) place BadEntry line kind
+
+-- the line behind the mark, counted from 0, that is the first that is no command of a script on the set, where there is one
+abbrev pub bad_at : List (List (List ℕ)) → ℕ → ProgramSet → Option ℕ
+bad_at lines place set = bad_command (label_places set.topo (take place lines)) set (drop (place + 1) lines)
+
+-- the first of the lines behind the mark that is no command of a script on the set
+abbrev pub NoCommand : List (List (List ℕ)) → ℕ → ProgramSet → ℕ → LineKind → Type 0
+NoCommand lines place set line kind = IsBadAt (λ at. bad_at lines place set ≡ Some at) place BadCommand line kind
+
+-- the least fault of lines that are to say a set, this word as the mark, and more: one of the set, or that there is no mark, or one behind it
+abbrev pub MarkedFault : List ℕ → (List (List (List ℕ)) → ℕ → ProgramSet → ℕ → LineKind → Type 0) → List (List (List ℕ)) → ℕ → LineKind → Type 0
+MarkedFault word Wrong lines line kind = OfSet (FaultBefore (mark_in word lines) lines) line kind ⊎ IsFaultBehind word Wrong lines line kind
 
 -- the form of an input that is a set of this form
 abbrev pub whole : SetForm → InputForm
@@ -136,25 +136,27 @@ whole set_form.Flow = form.Flow
 abbrev pub Means : InputForm → List ℕ → ProgramSet → Type 0
 Means form.Text input set = Meaning input set
 Means form.Image input set = Image input set
-Means form.Plan input set = Makes (PlanMeaning input) planned_of set
-Means form.Flow input set = Makes (EitherMeaning input) compiled_of set
+Means form.Plan input set = MakesSet (PlanMeaning input) planned_of set
+Means form.Flow input set = MakesSet (EitherMeaning input) compiled_of set
 Means form.History input set = SaysSteps input set
 Means form.Script input set = SaysScript input set
 Means form.Claim input set = SaysClaim input set
 
--- an input has a fault: a text its least one, at its line, or an image its first one, at its offset in bytes; of a plan or a
--- flow whose text has none, the programs may pass the limits
+-- a text has this least fault, at its line; of a plan or a flow whose text has none, the programs may pass the limits
+abbrev pub HasLineFault : InputForm → List ℕ → ℕ → LineKind → Type 0
+HasLineFault form.Text input line kind = OfSet (Fault input) line kind
+HasLineFault form.Image input line kind = ⊥
+HasLineFault form.Plan input line kind = OfSet (MakesNone (PlanMeaning input) (PlanFault input) planned_of input) line kind
+HasLineFault form.Flow input line kind = OfSet (MakesNone (EitherMeaning input) (EitherFault input) compiled_of input) line kind
+HasLineFault form.History input line kind = TextFault (Set NotAscii) (Set LineTooLong) (MarkedFault (codes "history") NoStep) input line kind
+HasLineFault form.Script input line kind = TextFault (Set NotAscii) (Set LineTooLong) (MarkedFault (codes "script") NoCommand) input line kind
+HasLineFault form.Claim input line kind = OfSet (IsClaimFault input) line kind
+
+-- an input has a fault: a text its least one, at its line, or an image its first one, at its offset in bytes
 abbrev pub HasFault : InputForm → List ℕ → Refusal → Type 0
-HasFault form.Text input (refusal.Line line (Set kind)) = Fault input line kind
-HasFault form.Plan input (refusal.Line line (Set kind)) = PlanFault input line kind ⊎ MakesTooMany (PlanMeaning input) planned_of input line kind
-HasFault form.Flow input (refusal.Line line (Set kind)) = EitherFault input line kind ⊎ MakesTooMany (EitherMeaning input) compiled_of input line kind
-HasFault form.History input (refusal.Line line (Set kind)) = FaultOfMarked (codes "history") (first_fault 1 (lines_of input)) (token_lines input) line kind
-HasFault form.History input (refusal.Line line BadEntry) = SaysNoStep input line
-HasFault form.Script input (refusal.Line line (Set kind)) = FaultOfMarked (codes "script") (first_fault 1 (lines_of input)) (token_lines input) line kind
-HasFault form.Script input (refusal.Line line BadCommand) = SaysNoCommand input line
-HasFault form.Claim input (refusal.Line line (Set kind)) = IsClaimFault input line kind
+HasFault form input (refusal.Line line kind) = HasLineFault form input line kind
 HasFault form.Image input (refusal.Image offset kind) = ImageFault input offset kind
-HasFault _ input _ = ⊥
+HasFault _ input (refusal.Image offset kind) = ⊥
 
 -- why an input is not read as a set: its fault, or want of memory
 abbrev pub IsUnset : InputForm → List ℕ → Failure → Type 0
@@ -172,6 +174,10 @@ abbrev pub IsNoStream : List ℕ → Failure → Type 0
 IsNoStream input (Refused (flaw.At refusal)) = HasStreamFault input refusal
 IsNoStream input Memory = Unit {0}
 IsNoStream input _ = ⊥
+
+-- a text means exactly one set, which keeps all that sets keep, or has exactly one fault, and not both
+abbrev pub IsOneSet : InputForm → List ℕ → Type 0
+IsOneSet form input = HasOneAnswer (Means form input) (HasLineFault form input) IsSet
 
 -- an input means a set, or has a fault
 abbrev pub MeansOrFails : InputForm → List ℕ → Type 0

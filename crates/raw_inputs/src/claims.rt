@@ -1,5 +1,5 @@
 //! The set and the claim that an input says.
-ghost use Rattle.std.specs.Prelude.{◌≡◌, ◌≤◌, ℕ, List, false, None, length, IfOk, IfErr};
+ghost use Rattle.std.specs.Prelude.{◌≡◌, ◌≤◌, ℕ, List, true, false, None, length, IfOk, IfErr};
 ghost use Rattle.raw_text.specs.Lines as text;
 ghost use Rattle.raw_set_text.specs.Texts.{token_lines};
 ghost use Rattle.raw_claim_text.specs.Meaning as claim;
@@ -29,7 +29,7 @@ pub enum Claimed {
 fn of_claim(refusal: SetRefusal) -> Failure
     ensures flow { (bytes : List ℕ) → text.first_fault 1 (text.lines_of bytes) ≡ None → says_rows bytes ≡ false →
         claim.IsCause (token_lines bytes) refusal → IsUnset InputForm.Claim bytes result }
-    ensures rows { (bytes : List ℕ) → text.first_fault 1 (text.lines_of bytes) ≡ None →
+    ensures rows { (bytes : List ℕ) → text.first_fault 1 (text.lines_of bytes) ≡ None → says_rows bytes ≡ true →
         rows.IsCause (token_lines bytes) refusal → IsUnset InputForm.Claim bytes result }
 {
     match refusal {

@@ -2,8 +2,6 @@
 pub mod Pairs
 pub mod Twice
 pub mod Insides
-pub mod Least
 pub mod Steps
 pub mod Whole
 pub mod Valid
-pub mod Ones

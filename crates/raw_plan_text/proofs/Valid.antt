@@ -1,4 +1,4 @@
--- A plan that lines mean is as a planner asks.
+-- The plan that lines without a fault declare is as a planner asks.
 use Rattle.std.proofs.Common.{◌≡◌, ◌⊎◌, ◌∙◌, ◌<◌, ◌≤◌, ◌+◌, ◌^◌, ◌++◌, ◌∷◌, ℕ, zero, suc, Bool, true, false, not, cond, ltb, leb, List, [], Option, Some, None, length, length-append, length-drop, get_or, take, drop, refl, sym, ap, subst, arith, inl, inr, ⊎_elim}
 use Rattle.std.proofs.Math.Seq.{take-length}
 use Rattle.std.specs.List.{All, list_all, filter_map, cons_option}
@@ -7,6 +7,7 @@ use Rattle.std.proofs.lemmas.List.{append-nil}
 use Rattle.std.proofs.lemmas.List.Elements.{All-nil, All-cons, All-append, All-from_recursion, filter_map-append}
 use Rattle.std.proofs.lemmas.Option.{none-some, same_Some}
 use Rattle.raw_text.specs.Number.{number_of}
+use Rattle.raw_answer.specs.Places.{AreFaultless}
 use Rattle.raw_grid.specs.declared.limits.TheConstants.{MAX_SIZE}
 use Rattle.raw_grid.specs.Topology.{Topology, without_ports, IsSize, tile_count}
 use Rattle.raw_grid.specs.Names.{net_named}
@@ -19,11 +20,11 @@ use Rattle.raw_text.proofs.NumberBounds.{number_small}
 use Rattle.raw_route.specs.Planned.{IsSending}
 use Rattle.raw_route.specs.Refusals.{has_twice, first_fault}
 use Rattle.raw_route.proofs.Faultless.{all_sendings}
-use Rattle.raw_plan_text.specs.Plans.{HaulPlan, IsPlan}
+use Rattle.raw_plan_text.specs.Plans.{IsPlan}
 use Rattle.raw_plan_text.specs.Forms.{Sent, Entry, tile_of, tiles_of, grid_entry, send_entry, is_grid, is_send, line_entry}
 use Rattle.raw_plan_text.specs.Forms.Entry.{Grid, Send}
 use Rattle.raw_plan_text.specs.Faults.{grid_of, is_inside, targets_in, is_size, is_off_grid, is_repeated, form_fault, entry_fault, line_fault}
-use Rattle.raw_plan_text.specs.Meaning.{entries_of, end_fault, AreFaultless, haul_of, haul_in, word_in, plan_of, IsMeaning}
+use Rattle.raw_plan_text.specs.Meaning.{entries_of, end_fault, place_fault, haul_of, haul_in, word_in, plan_of}
 use Rattle.raw_plan_text.proofs.Pairs.{some_tiles}
 use Rattle.raw_plan_text.proofs.Insides.{haul_faultless, faultless_push}
 use Rattle.raw_plan_text.proofs.Steps.{blank_entry, missing_line, first_line, later_line, grid_kept, entries_more, fault_of_line, fault_at_end}
@@ -149,7 +150,7 @@ next_line entries line good e =
     subst IsGoodSoFar (sym same) good)
     (cases_lt 0 (length line))
 
-good_upto : (lines : List (List (List ℕ))) (k : ℕ) → k ≤ length lines → AreFaultless lines k → IsGoodSoFar (entries_of (take k lines))
+good_upto : (lines : List (List (List ℕ))) (k : ℕ) → k ≤ length lines → AreFaultless (place_fault lines) k → IsGoodSoFar (entries_of (take k lines))
 good_upto lines zero l faultless = inl refl
 good_upto lines (suc k) l faultless =
     let there : k < length lines = omega arith in
@@ -183,13 +184,13 @@ entries_some : (lines : List (List (List ℕ))) → end_fault lines ≡ None →
 unfolding end_fault
 entries_some lines e = some_grid (are_some (entries_of lines)) e
 
-pub meaning_valid : (lines : List (List (List ℕ))) (plan : HaulPlan) → IsMeaning lines plan → IsPlan plan
-meaning_valid lines plan is =
+pub faultless_valid : (lines : List (List (List ℕ))) → AreFaultless (place_fault lines) (length lines + 1) → IsPlan (plan_of (entries_of lines))
+faultless_valid lines faultless =
     let all = length lines in
     let whole : entries_of (take all lines) ≡ entries_of lines = ap entries_of (take-length lines) in
-    let ended : end_fault lines ≡ None = sym (fault_at_end lines all (omega arith)) ∙ is.faultless all (omega arith) in
+    let ended : end_fault lines ≡ None = sym (fault_at_end lines all (omega arith)) ∙ faultless all (omega arith) in
     let some = entries_some lines ended in
     ⊎_elim
     (λ (none : entries_of lines ≡ []). absurd (let empty = ap are_some none in cc some))
-    (λ (good : IsGood (grid_of (entries_of lines)) (entries_of lines)). subst IsPlan (sym is.plan_is) (plan_valid (entries_of lines) good))
-    (subst IsGoodSoFar whole (good_upto lines all (omega arith) (λ k below. is.faultless k (omega arith))))
+    (λ (good : IsGood (grid_of (entries_of lines)) (entries_of lines)). plan_valid (entries_of lines) good)
+    (subst IsGoodSoFar whole (good_upto lines all (omega arith) (λ k below. faultless k (omega arith))))

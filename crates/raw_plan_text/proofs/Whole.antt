@@ -2,15 +2,16 @@
 use Rattle.std.proofs.Common.{◌≡◌, ◌∙◌, ◌<◌, ◌≤◌, ◌+◌, ◌∷◌, ℕ, List, [], Option, Some, None, length, refl, ap, arith}
 use Rattle.std.specs.List.{filter_map, cons_option}
 use Rattle.std.proofs.lemmas.Bool.{lt-ltb}
+use Rattle.raw_answer.specs.Places.{AreFaultless, IsLeast}
+use Rattle.raw_answer.proofs.Places.{more_faultless}
 use Rattle.raw_set_text.specs.declared.kind.SetKind.TheVariants.{Missing}
 use Rattle.raw_set_text.specs.declared.kind.SetRefusal.{SetRefusal}
 use Rattle.raw_set_text.specs.declared.kind.SetRefusal.TheVariants.{At, Memory}
 use Rattle.raw_plan_text.specs.Plans.{HaulPlan}
 use Rattle.raw_plan_text.specs.Forms.{line_entry}
 use Rattle.raw_plan_text.specs.Faults.{grid_of}
-use Rattle.raw_plan_text.specs.Meaning.{entries_of, end_fault, haul_in, plan_of, place_fault, AreFaultless, IsMeaning, IsLeastFault, IsCause}
+use Rattle.raw_plan_text.specs.Meaning.{entries_of, end_fault, haul_in, plan_of, place_fault, IsMeaning, IsCause}
 use Rattle.raw_plan_text.specs.Answers.{Names, Stands}
-use Rattle.raw_plan_text.proofs.Least.{faultless_more}
 use Rattle.raw_plan_text.proofs.Steps.{fault_at_end}
 
 shorter : {Y : Type 0} (o : Option Y) (ys : List Y) (n : ℕ) → length ys ≤ n → length (cons_option o ys) ≤ n + 1
@@ -22,17 +23,17 @@ no_longer h [] = omega arith
 no_longer h (x ∷ xs) = omega (arith, shorter (h x) (filter_map h xs) (length xs) (no_longer h xs))
 
 module _ (lines : List (List (List ℕ))) where
-  pub line_cause : (k : ℕ) (refusal : SetRefusal) → k < length lines → AreFaultless lines k → Names refusal (k + 1) (place_fault lines k) → IsCause lines refusal
-  line_cause k (At line kind) l before names = (k, names.0, record { within = omega arith; here = names.1; before = before })
+  pub line_cause : (k : ℕ) (refusal : SetRefusal) → k < length lines → AreFaultless (place_fault lines) k → Names refusal (k + 1) (place_fault lines k) → IsCause lines refusal
+  line_cause k (At line kind) l before names = (k, omega (arith, names.0), record { within = omega arith; here = names.1; before = before })
   line_cause k Memory l before names = tt
 
-  pub all_read : (plan : HaulPlan) → AreFaultless lines (length lines) → Stands (Some plan) (entries_of lines) → IsMeaning lines plan
+  pub all_read : (plan : HaulPlan) → AreFaultless (place_fault lines) (length lines) → Stands (Some plan) (entries_of lines) → IsMeaning lines plan
   unfolding end_fault
   all_read plan faultless stands =
       let ended : end_fault lines ≡ None = rw (lt-ltb 0 (length (entries_of lines)) stands.0) refl in
-      record { faultless = faultless_more lines (length lines) faultless (fault_at_end lines (length lines) (omega arith) ∙ ended); plan_is = stands.1 }
+      record { faultless = more_faultless (place_fault lines) (length lines) faultless (fault_at_end lines (length lines) (omega arith) ∙ ended); is = stands.1 }
 
-  pub none_read : AreFaultless lines (length lines) → entries_of lines ≡ [] → IsLeastFault lines (length lines) Missing
+  pub none_read : AreFaultless (place_fault lines) (length lines) → entries_of lines ≡ [] → IsLeast (place_fault lines) (length lines) (length lines) Missing
   unfolding end_fault
   none_read faultless none =
       let ended : end_fault lines ≡ Some Missing = rw none refl in
@@ -42,5 +43,5 @@ module _ (lines : List (List (List ℕ))) where
   pub few_hauls : (plan : HaulPlan) → IsMeaning lines plan → length plan.hauls ≤ length lines
   unfolding plan_of
   few_hauls plan is =
-      let hauls : plan.hauls ≡ filter_map (haul_in (grid_of (entries_of lines))) (entries_of lines) = ap (λ p. p.hauls) is.plan_is in
+      let hauls : plan.hauls ≡ filter_map (haul_in (grid_of (entries_of lines))) (entries_of lines) = ap (λ p. p.hauls) is.is in
       omega (arith, ap length hauls, no_longer (haul_in (grid_of (entries_of lines))) (entries_of lines), no_longer line_entry lines)

@@ -1,6 +1,8 @@
 -- What the lines of a plan mean, and their least fault: statements about all lines at once.
-use Rattle.std.specs.Prelude.{◌≡◌, ◌⊎◌, ℕ, ◌+◌, ◌<◌, ◌≤◌, List, [], length, take, Option, Some, None, nat_lt, slice_index_or, if◌then◌else◌}
+use Rattle.std.specs.Prelude.{ℕ, List, [], length, take, Option, Some, None, nat_lt, slice_index_or, if◌then◌else◌}
 use Rattle.std.specs.List.{filter_map}
+use Rattle.raw_answer.specs.OneAnswer.{HasOneAnswer}
+use Rattle.raw_answer.specs.Places.{IsMeant, IsLeastFrom}
 use Rattle.raw_grid.specs.Topology.{Topology}
 use Rattle.raw_set_text.specs.declared.kind.SetKind.{SetKind}
 use Rattle.raw_set_text.specs.declared.kind.SetKind.TheVariants.{Missing}
@@ -29,10 +31,6 @@ end_fault lines = if are_some (entries_of lines) then None else Some Missing
 abbrev pub place_fault : List (List (List ℕ)) → ℕ → Option SetKind
 place_fault lines k = if nat_lt k (length lines) then fault_at lines k else end_fault lines
 
--- nothing is wrong at the first n places
-abbrev pub AreFaultless : List (List (List ℕ)) → ℕ → Type 0
-AreFaultless lines n = (k : ℕ) → k < n → place_fault lines k ≡ None
-
 -- the haul of a word that is sent on a grid, by the numbers of its tiles
 abbrev pub haul_of : Topology → Sent → Haulage
 haul_of grid sent = record { from = number_in grid sent.from; net = sent.net; to = targets_in grid sent }
@@ -57,35 +55,18 @@ plan_of entries = record {
 
 -- the lines mean this plan: none has a fault, nothing is missing behind the last, and it is the plan that their entries
 -- declare
-pub record IsMeaning (lines : List (List (List ℕ))) (plan : HaulPlan) : Type 0 where
-  pub faultless : AreFaultless lines (length lines + 1)
-  pub plan_is : plan ≡ plan_of (entries_of lines)
+abbrev pub IsMeaning : List (List (List ℕ)) → HaulPlan → Type 0
+IsMeaning lines plan = IsMeant (place_fault lines) (length lines) (plan_of (entries_of lines)) plan
 
--- the place k, which may be the one behind the last line, has this fault, and none before it has any
-pub record IsLeastFault (lines : List (List (List ℕ))) (k : ℕ) (kind : SetKind) : Type 0 where
-  pub within : k ≤ length lines
-  pub here : place_fault lines k ≡ Some kind
-  pub before : AreFaultless lines k
+-- the least faulty line, counted from 1, and its fault; the place behind the last line is one too
+abbrev pub IsFault : List (List (List ℕ)) → ℕ → SetKind → Type 0
+IsFault lines line kind = IsLeastFrom (place_fault lines) (length lines) 0 line kind
 
--- some place is the least faulty one
-abbrev pub HasLeastFault : List (List (List ℕ)) → Type 0
-HasLeastFault lines = (k : ℕ) × (kind : SetKind) × IsLeastFault lines k kind
-
--- a refusal names the least faulty line, counted from 1, and its fault, or is want of memory
+-- a refusal names the least faulty line and its fault, or is want of memory
 abbrev pub IsCause : List (List (List ℕ)) → SetRefusal → Type 0
-IsCause lines (At line kind) = (k : ℕ) × (line ≡ k + 1) × IsLeastFault lines k kind
+IsCause lines (At line kind) = IsFault lines line kind
 IsCause lines Memory = Unit {0}
 
--- a plan that the lines mean, which is as a planner asks
-pub record MeansPlan (lines : List (List (List ℕ))) : Type 0 where
-  pub plan : HaulPlan
-  pub meaning : IsMeaning lines plan
-  pub valid : IsPlan plan
-
--- the lines mean exactly one plan or have exactly one least fault, and not both
-pub record HasOneAnswer (lines : List (List (List ℕ))) : Type 0 where
-  pub some : MeansPlan lines ⊎ HasLeastFault lines
-  pub one_plan : (a b : HaulPlan) → IsMeaning lines a → IsMeaning lines b → a ≡ b
-  pub one_place : (j k : ℕ) (a b : SetKind) → IsLeastFault lines j a → IsLeastFault lines k b → j ≡ k
-  pub one_kind : (j k : ℕ) (a b : SetKind) → IsLeastFault lines j a → IsLeastFault lines k b → a ≡ b
-  pub not_both : (plan : HaulPlan) (k : ℕ) (kind : SetKind) → IsMeaning lines plan → IsLeastFault lines k kind → ⊥
+-- the lines mean exactly one plan, which is as a planner asks, or have exactly one least fault, and not both
+abbrev pub IsOnePlan : List (List (List ℕ)) → Type 0
+IsOnePlan lines = HasOneAnswer (IsMeaning lines) (IsFault lines) IsPlan

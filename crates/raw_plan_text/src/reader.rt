@@ -12,7 +12,7 @@ ghost use Rattle.raw_plan_text.specs.Meaning.{entries_of, IsMeaning, IsCause};
 ghost use Rattle.raw_plan_text.specs.Answers.{Answers, Stands};
 
 use crate::forms::{Send, grid_size, is_grid, is_send, read_send};
-use crate::laws::law_valid;
+use crate::laws::law_one_answer;
 use crate::plan::Plan;
 use crate::tile::{are_inside, is_inside, numbers, tile_number};
 use raw_asm::{Section, Tokens};
@@ -168,7 +168,7 @@ pub fn read_plan(alloc: Global, text: &Text) -> Result<Plan, SetRefusal>
     ensures valid { IfOk result IsPlan }
     ensures few { IfOk result (λ plan. length plan.hauls < 2 ^ 32) }
 {
-    law_valid();
+    law_one_answer();
     let lines = Section::new(text, 0, text.line_count());
     let mut plan = None;
     for place in 0..lines.len() {

@@ -1,12 +1,13 @@
 -- Why an input is not scheduled.
-use Rattle.std.proofs.Common.{◌≡◌, ℕ, ◌+◌, ◌<◌, ◌≤◌, Bool, true, false, List, length, None, refl, sym, ap, ◌∙◌, subst, inl, inr, ⊎_elim}
+use Rattle.std.proofs.Common.{◌≡◌, ℕ, ◌+◌, ◌<◌, ◌≤◌, Bool, true, false, List, length, None, refl, sym, ap, ◌∙◌, subst, inl, inr, ⊎_elim, arith}
 use Rattle.std.proofs.lemmas.Bool.{cases_lt}
 use Rattle.std.proofs.lemmas.List.{length-map}
 use Rattle.raw_text.specs.Lines.{lines_of, first_fault, tokens_of}
+use Rattle.raw_answer.proofs.Texts.{lines_fault}
 use Rattle.raw_set_text.specs.declared.kind.SetRefusal.{SetRefusal}
 use Rattle.raw_set_text.specs.declared.kind.SetRefusal.TheVariants.{At, Memory}
 use Rattle.raw_set_text.specs.declared.kind.SetKind.{SetKind}
-use Rattle.raw_set_text.specs.declared.kind.SetKind.TheVariants.{OverLimit}
+use Rattle.raw_set_text.specs.declared.kind.SetKind.TheVariants.{NotAscii, LineTooLong, OverLimit}
 use Rattle.raw_set_text.specs.Texts.{token_lines}
 use Rattle.raw_codegen.specs.Limits.{AreShort}
 use Rattle.raw_flow.specs.declared.limits.TheConstants.{MAX_NODES}
@@ -19,7 +20,7 @@ use Rattle.raw_stream_text.specs.Streams.{FedStream}
 use Rattle.raw_stream_text.specs.Texts.{StreamMeaning}
 use Rattle.raw_stream_text.specs.Meaning as stream
 use Rattle.raw_either_flow.specs.Placed.{plain_flow, stream_flow}
-use Rattle.raw_either_flow.specs.Texts.{MeansOf, CauseOf, FaultBehind, EitherFault}
+use Rattle.raw_either_flow.specs.Texts.{MeansOf, FaultOf, CauseOf, IsFault, EitherFault}
 use Rattle.raw_choice.specs.Choice.{IsMade}
 use Rattle.raw_stream_choice.specs.Choice.{IsCompilable}
 use Rattle.raw_inputs.specs.declared.flaw.LineKind.TheVariants.{Set}
@@ -44,10 +45,9 @@ stream_cause input is_rows Memory cause = subst (λ b. CauseOf b (token_lines in
 
 -- the text of a flow or a stream without a fault as a text
 module _ (input : List ℕ) (plain : first_fault 1 (lines_of input) ≡ None) where
-  fault_of : (rows : Bool) → is_stream_text input ≡ rows → (line : ℕ) (kind : SetKind) → CauseOf rows (token_lines input) (At line kind) → EitherFault input line kind
+  fault_of : (rows : Bool) → is_stream_text input ≡ rows → (line : ℕ) (kind : SetKind) → FaultOf rows (token_lines input) line kind → EitherFault input line kind
   fault_of rows is line kind cause =
-      subst (λ first. FaultBehind first (token_lines input) line kind) (sym plain)
-      (subst (λ b. CauseOf b (token_lines input) (At line kind)) (sym is) cause)
+      lines_fault NotAscii LineTooLong IsFault input plain line kind (subst (λ b. FaultOf b (token_lines input) line kind) (sym is) cause)
 
   -- where no set is made, and the line is the one after the last
   module _ (line : ℕ) (last : line ≡ length (token_lines input) + 1) where
@@ -69,13 +69,13 @@ module _ (input : List ℕ) (plain : first_fault 1 (lines_of input) ≡ None) wh
     stream_too_long is_rows fed meaning none = ⊎_elim many few (cases_lt MAX_NODES (length (unrolled fed.stream).nodes)) where
       many : MAX_NODES < length (unrolled fed.stream).nodes → HasFault form.Flow input (Line line (Set OverLimit))
       many long =
-          inl (fault_of true is_rows line OverLimit (inr (record { fed = fed; meaning = meaning.meaning; long = long; line_is = last; kind_is = refl })))
+          inl (fault_of true is_rows line OverLimit (inr (record { meant = fed; meaning = meaning.meaning; long = λ fits. omega (arith, long, fits); line_is = last; kind_is = refl })))
 
       few : length (unrolled fed.stream).nodes ≤ MAX_NODES → HasFault form.Flow input (Line line (Set OverLimit))
       few fits =
           inr (record {
             meant = stream_flow fed;
-            meaning = record { plain = plain; meaning = subst (λ b. MeansOf b (token_lines input) (stream_flow fed)) (sym is_rows) (fed, meaning.meaning, fits, refl) };
+            meaning = record { plain = plain; meaning = subst (λ b. MeansOf b (token_lines input) (stream_flow fed)) (sym is_rows) (record { meant = fed; meaning = meaning.meaning; fits = fits; is = refl }) };
             long = λ short. none (record { few = fits; short = short });
             line_is = line_is;
             kind_is = refl;

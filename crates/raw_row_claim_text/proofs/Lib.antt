@@ -1,4 +1,3 @@
 -- The lemmas of this crate.
 pub mod Seating
-pub mod OneText
 pub mod Claims

@@ -1,8 +1,8 @@
 //! Reading the text of a claim of rows.
-ghost use Rattle.std.specs.Prelude.{◌≡◌, ◌↔◌, None, false, IfOk, IfErr, IfSome, Some};
+ghost use Rattle.std.specs.Prelude.{◌≡◌, ◌↔◌, None, true, false, IfOk, IfErr, IfSome, Some};
 ghost use Rattle.raw_text.specs.Text.{text_lines};
 ghost use Rattle.raw_stream_text.specs.Meaning.{IsFed};
-ghost use Rattle.raw_row_claim_text.specs.Meaning.{has_rows, IsMeaning, IsCause};
+ghost use Rattle.raw_row_claim_text.specs.Meaning.{has_rows, Says, IsCause};
 
 use crate::claim::RowClaim;
 use raw_set_text::{SetRefusal, read_set};
@@ -17,9 +17,10 @@ use std::alloc::Global;
 /// memory: a fault of the set before the line `claim` comes first, and then those of the stream behind it. The text is
 /// unchanged.
 pub fn read_row_claim(alloc: Global, text: &Text) -> Result<Option<RowClaim>, SetRefusal>
-    ensures meaning { IfOk result (λ claim. IfSome claim (λ claim. IsMeaning (text_lines text.now) claim.set claim.input)) }
+    ensures meaning { IfOk result (λ claim. IfSome claim (λ claim. Says (text_lines text.now) (claim.set, claim.input))) }
     ensures none { IfOk result (λ claim. (claim ≡ None) ↔ (has_rows (text_lines text.now) ≡ false)) }
     ensures cause { IfErr result (IsCause (text_lines text.now)) }
+    ensures rows { IfErr result (λ _. has_rows (text_lines text.now) ≡ true) }
     ensures fed { IfOk result (λ claim. IfSome claim (λ claim. IsFed (Some claim.set.topo) claim.input)) }
 {
     let Some(place) = text.find_word(b"claim") else {

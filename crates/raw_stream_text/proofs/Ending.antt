@@ -25,7 +25,7 @@ use Rattle.raw_set_text.specs.Entry.{place_of, same_place}
 use Rattle.raw_set_text.specs.Faults.{fault_if}
 use Rattle.raw_set_text.proofs.Lawful.Entries.{none_if}
 use Rattle.raw_flow.specs.declared.limits.TheConstants.{MAX_NODES}
-use Rattle.raw_flow_text.specs.Least.{AreFaultless}
+use Rattle.raw_answer.specs.Places.{AreFaultless}
 use Rattle.raw_flow_text.proofs.Sound.{some_size, not_false}
 use Rattle.raw_stream.specs.Streams.{Stream}
 use Rattle.raw_stream.specs.Unrolled.{width, first, word_count}

@@ -8,5 +8,4 @@ pub mod Sound
 pub mod Passing
 pub mod Ending
 pub mod Built
-pub mod OneText
 pub mod Second

@@ -12,8 +12,9 @@ use Rattle.raw_grid.specs.Topology.{Topology}
 use Rattle.raw_set_text.specs.declared.kind.SetKind.TheVariants.{Missing, BadLine}
 use Rattle.raw_set_text.specs.declared.kind.SetRefusal.{SetRefusal}
 use Rattle.raw_flow_text.specs.Building.{Answers}
-use Rattle.raw_flow_text.proofs.Least.{more_faultless, refused_at}
-use Rattle.raw_flow_text.specs.Least.{AreFaultless}
+use Rattle.raw_answer.proofs.Places.{more_faultless}
+use Rattle.raw_flow_text.proofs.Causes.{refused_at}
+use Rattle.raw_answer.specs.Places.{AreFaultless}
 use Rattle.raw_stream_text.specs.Statement.{Statement}
 use Rattle.raw_stream_text.specs.Forms.{line_statement}
 use Rattle.raw_stream_text.specs.Streams.{FedStream, size_in, count_in, fed_by}

@@ -3,12 +3,14 @@
 use Rattle.std.specs.Prelude.{◌≡◌, ◌⊎◌, ℕ, ◌<◌, ◌^◌, Bool, true, List, [], length, take, Option, Some, None, nat_lt, codes, slice_index_or, All, if◌then◌else◌}
 use Rattle.std.specs.List.{filter_map, filter, list_any}
 use Rattle.std.specs.Str.{bytes_eq}
+use Rattle.raw_answer.specs.OneAnswer.{HasOneAnswer}
+use Rattle.raw_answer.specs.Places.{IsMeant, IsLeastFrom}
 use Rattle.raw_grid.specs.declared.parts.PortPlace.{PortPlace}
 use Rattle.raw_grid.specs.Topology.{Topology}
 use Rattle.raw_set_text.specs.declared.kind.SetKind.{SetKind}
 use Rattle.raw_set_text.specs.declared.kind.SetRefusal.{SetRefusal}
 use Rattle.raw_set_text.specs.Entry.{same_place}
-use Rattle.raw_flow_text.specs.Least.{HasLeast, IsCauseOf, IsMeant, MeansValid, HasOne}
+use Rattle.raw_flow_text.specs.Causes.{IsCauseOf}
 use Rattle.raw_stream.specs.Unrolled.{word_count}
 use Rattle.raw_stream.specs.Kept.{IsStream}
 use Rattle.raw_stream_text.specs.Statement.{Statement}
@@ -39,9 +41,13 @@ fault_at claimed lines k =
 abbrev pub IsMeaning : Option Topology → List (List (List ℕ)) → FedStream → Type 0
 IsMeaning claimed lines fed = IsMeant (fault_at claimed lines) (length lines) (fed_by (said_in lines)) fed
 
--- a refusal names the least faulty line, counted from 1, where the lines come after so many others, and its fault, or is want of memory
+-- the least faulty line, counted from 1, where the lines come after so many others, and its fault; the place behind the last line is one too
+abbrev pub IsFault : Option Topology → ℕ → List (List (List ℕ)) → ℕ → SetKind → Type 0
+IsFault claimed from lines line kind = IsLeastFrom (fault_at claimed lines) (length lines) from line kind
+
+-- a refusal names the least faulty line and its fault, or is want of memory
 abbrev pub IsCause : Option Topology → ℕ → List (List (List ℕ)) → SetRefusal → Type 0
-IsCause claimed from lines refusal = IsCauseOf (fault_at claimed lines) (length lines) from refusal
+IsCause claimed from lines refusal = IsCauseOf (IsFault claimed from lines) refusal
 
 -- some port of a set stands at the place
 abbrev pub IsPortOf : Topology → PortPlace → Type 0
@@ -64,13 +70,6 @@ pub record IsFed (claimed : Option Topology) (fed : FedStream) : Type 0 where
   pub enough : HasWords claimed fed
   pub ports : HasPorts claimed fed
 
--- some place is the least faulty one, or a stream is meant that keeps all that streams keep
-abbrev pub HasLeastFault : Option Topology → List (List (List ℕ)) → Type 0
-HasLeastFault claimed lines = HasLeast (fault_at claimed lines) (length lines)
-
-abbrev pub MeansStream : Option Topology → List (List (List ℕ)) → Type 0
-MeansStream claimed lines = MeansValid (fault_at claimed lines) (length lines) (fed_by (said_in lines)) (IsFed claimed)
-
 -- the lines mean exactly one stream with its words, which keeps all that streams keep, or have exactly one least fault, and not both
-abbrev pub HasOneAnswer : Option Topology → List (List (List ℕ)) → Type 0
-HasOneAnswer claimed lines = HasOne (fault_at claimed lines) (length lines) (fed_by (said_in lines)) (IsFed claimed)
+abbrev pub IsOneStream : Option Topology → ℕ → List (List (List ℕ)) → Type 0
+IsOneStream claimed from lines = HasOneAnswer (IsMeaning claimed lines) (IsFault claimed from lines) (IsFed claimed)

@@ -1,17 +1,18 @@
 use Rattle.std.proofs.Common.{◌≡◌, ◌+◌, ◌-◌, ◌<◌, ◌++◌, ◌∷◌, [], length, map, take, drop, Err, Some, sym, ap, ◌∙◌, subst, arith}
-use Rattle.std.specs.Prelude.{IfOk, IfErr}
+use Rattle.std.specs.Prelude.{IfErr}
 use Rattle.std.proofs.lemmas.List.{take_rest, length-drop}
 use Rattle.std.proofs.Math.Seq.{take-length}
 use Rattle.raw_text.specs.Text.{text_lines}
+use Rattle.raw_answer.specs.Places.{AreFaultless}
 use Rattle.raw_asm.specs.Tokens.{section_lines}
 use Rattle.raw_flow_text.specs.Faults as flow_line
 use Rattle.raw_flow_text.specs.Building.{Answers}
-use Rattle.raw_flow_text.proofs.Least.{passed}
+use Rattle.raw_flow_text.proofs.Causes.{passed}
 use Rattle.raw_claim_text.specs.Forms.{plain_line}
 use Rattle.raw_claim_text.specs.Placing.{place_said, said_places, said_in, line_fault}
-use Rattle.raw_claim_text.specs.Lines.{size_of, AreFaultless, IsMeaning, IsCause}
+use Rattle.raw_claim_text.specs.Lines.{size_of, fault_at, IsMeaning, IsCause}
 use Rattle.raw_claim_text.specs.Building.{Stands, claim_of}
-use Rattle.raw_claim_text.proofs.Reading.{fault_behind, line_passes, stands_next, line_refused, end_refused, ended_fed, meant}
+use Rattle.raw_claim_text.proofs.Reading.{line_passes, stands_next, line_refused, end_refused, ended_fed, meant}
 use Rattle.raw_claim_text.proofs.reader.read_lines.Goals as goal
 
 pub loop-place-init : goal.loop-place-init
@@ -60,9 +61,9 @@ finish-requires c =
     let lines = section_lines c.new-lines.result in
     let topo = c.args.topo.now in
     let last : c.loop-place.place ≡ length lines = omega arith in
-    let faultless = subst (AreFaultless topo lines) last c.loop-place.invariant.faultless in
+    let faultless = subst (AreFaultless (fault_at topo lines)) last c.loop-place.invariant.faultless in
     let stands = subst (Stands topo c.loop-place.builder) (ap (λ n. take n lines) last ∙ take-length lines) c.loop-place.invariant.stands in
-    (said_in lines, stands.flow, ended_fed topo c.args.from lines (c.law_one_answer.ensures (Some (size_of topo)) (map plain_line lines)) faultless)
+    (said_in lines, stands.flow, ended_fed topo c.args.from lines (c.law_one_answer.ensures (Some (size_of topo)) c.args.from (map plain_line lines)) faultless)
 
 pub returns-in_err-read-clause-cause : goal.returns-in_err-read-clause-cause
 returns-in_err-read-clause-cause c =
@@ -70,7 +71,7 @@ returns-in_err-read-clause-cause c =
     let topo = c.args.topo.now in
     let last : c.loop-place.place ≡ length lines = omega arith in
     let refusal = c.in_err-read.field-0.0 in
-    let faultless = subst (AreFaultless topo lines) last c.loop-place.invariant.faultless in
+    let faultless = subst (AreFaultless (fault_at topo lines)) last c.loop-place.invariant.faultless in
     let stands = subst (Stands topo c.loop-place.builder) (ap (λ n. take n lines) last ∙ take-length lines) c.loop-place.invariant.stands in
     let whole : lines ≡ drop c.args.from (text_lines c.args.text.now) = c.new-lines.ensures.lines ∙ ap (λ n. take (n - c.args.from) (drop c.args.from (text_lines c.args.text.now))) c.line_count.ensures.count ∙ take_rest (text_lines c.args.text.now) c.args.from in
     let long : length lines ≡ length (text_lines c.args.text.now) - c.args.from = ap length whole ∙ length-drop c.args.from (text_lines c.args.text.now) in
@@ -83,7 +84,7 @@ returns-clause-meaning c =
     let lines = section_lines c.new-lines.result in
     let topo = c.args.topo.now in
     let last : c.loop-place.place ≡ length lines = omega arith in
-    let faultless = subst (AreFaultless topo lines) last c.loop-place.invariant.faultless in
+    let faultless = subst (AreFaultless (fault_at topo lines)) last c.loop-place.invariant.faultless in
     let stands = subst (Stands topo c.loop-place.builder) (ap (λ n. take n lines) last ∙ take-length lines) c.loop-place.invariant.stands in
     let whole : lines ≡ drop c.args.from (text_lines c.args.text.now) = c.new-lines.ensures.lines ∙ ap (λ n. take (n - c.args.from) (drop c.args.from (text_lines c.args.text.now))) c.line_count.ensures.count ∙ take_rest (text_lines c.args.text.now) c.args.from in
     subst (λ all. IsMeaning topo all (claim_of (record { read = c.in_ok-read.read; places = c.loop-place.builder.places }))) whole

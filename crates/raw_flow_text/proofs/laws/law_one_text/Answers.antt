@@ -1,7 +1,10 @@
-use Rattle.std.proofs.Common.{None}
+use Rattle.std.specs.Prelude.{None}
+use Rattle.raw_answer.proofs.Texts.{one_text}
+use Rattle.raw_set_text.specs.declared.kind.SetKind.TheVariants.{NotAscii, LineTooLong}
 use Rattle.raw_set_text.specs.Texts.{token_lines}
-use Rattle.raw_flow_text.proofs.OneText.{one_text}
+use Rattle.raw_flow_text.specs.Flows.{IsFed}
+use Rattle.raw_flow_text.specs.Meaning.{IsMeaning, IsFault}
 use Rattle.raw_flow_text.proofs.laws.law_one_text.Goals as goal
 
 pub returns : goal.returns
-returns c = λ bytes. one_text bytes (c.law_one_answer.ensures None (token_lines bytes)) (c.law_one_text.ensures bytes)
+returns c bytes = one_text NotAscii LineTooLong (IsFault None 0) bytes (IsMeaning None) IsFed (c.law_one_answer.ensures None 0 (token_lines bytes))

@@ -3,10 +3,11 @@ use Rattle.std.specs.Prelude.{IfOk, IfErr}
 use Rattle.std.specs.Option.{option_to_list}
 use Rattle.std.proofs.lemmas.List.{take_rest, length-drop}
 use Rattle.raw_text.specs.Text.{text_lines}
+use Rattle.raw_answer.specs.Places.{AreFaultless}
 use Rattle.raw_asm.specs.Tokens.{section_lines}
 use Rattle.raw_flow_text.specs.Faults.{line_fault}
 use Rattle.raw_flow_text.specs.Forms.{line_statement}
-use Rattle.raw_flow_text.specs.Meaning.{said_before, AreFaultless, IsMeaning, IsCause}
+use Rattle.raw_flow_text.specs.Meaning.{said_before, fault_at, IsMeaning, IsCause}
 use Rattle.raw_flow_text.specs.Building.{Stands, Answers}
 use Rattle.raw_flow_text.proofs.Sound.{ended_fed}
 use Rattle.raw_flow_text.proofs.Passing.{line_passes, stands_next, line_refused, end_refused, end_meant, passed_on}
@@ -42,7 +43,7 @@ pub finish-requires : goal.finish-requires
 finish-requires c =
     let lines = section_lines c.new-lines.result in
     let last : c.loop-place.place ≡ length lines = omega arith in
-    let faultless = subst (AreFaultless c.args.wanted lines) last c.loop-place.invariant.faultless in
+    let faultless = subst (AreFaultless (fault_at c.args.wanted lines)) last c.loop-place.invariant.faultless in
     let stands = subst (λ k. Stands c.loop-place.builder (said_before lines k)) last c.loop-place.invariant.stands in
     (said_before lines (length lines), stands, ended_fed c.args.wanted lines faultless)
 
@@ -50,7 +51,7 @@ pub returns-clause-meaning : goal.returns-clause-meaning
 returns-clause-meaning c =
     let lines = section_lines c.new-lines.result in
     let last : c.loop-place.place ≡ length lines = omega arith in
-    let faultless = subst (AreFaultless c.args.wanted lines) last c.loop-place.invariant.faultless in
+    let faultless = subst (AreFaultless (fault_at c.args.wanted lines)) last c.loop-place.invariant.faultless in
     let stands = subst (λ k. Stands c.loop-place.builder (said_before lines k)) last c.loop-place.invariant.stands in
     let whole : lines ≡ drop c.args.from (text_lines c.args.text.now) = c.new-lines.ensures.lines ∙ ap (λ n. take (n - c.args.from) (drop c.args.from (text_lines c.args.text.now))) c.line_count.ensures.count ∙ take_rest (text_lines c.args.text.now) c.args.from in
     subst (λ all. IfOk c.finish.result (IsMeaning c.args.wanted all)) whole
@@ -60,7 +61,7 @@ pub returns-clause-cause : goal.returns-clause-cause
 returns-clause-cause c =
     let lines = section_lines c.new-lines.result in
     let last : c.loop-place.place ≡ length lines = omega arith in
-    let faultless = subst (AreFaultless c.args.wanted lines) last c.loop-place.invariant.faultless in
+    let faultless = subst (AreFaultless (fault_at c.args.wanted lines)) last c.loop-place.invariant.faultless in
     let stands = subst (λ k. Stands c.loop-place.builder (said_before lines k)) last c.loop-place.invariant.stands in
     let whole : lines ≡ drop c.args.from (text_lines c.args.text.now) = c.new-lines.ensures.lines ∙ ap (λ n. take (n - c.args.from) (drop c.args.from (text_lines c.args.text.now))) c.line_count.ensures.count ∙ take_rest (text_lines c.args.text.now) c.args.from in
     let long : length lines ≡ length (text_lines c.args.text.now) - c.args.from = ap length whole ∙ length-drop c.args.from (text_lines c.args.text.now) in

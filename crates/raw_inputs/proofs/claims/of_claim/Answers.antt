@@ -15,6 +15,6 @@ returns-in-At-clause-flow c = λ bytes plain none cause.
     (flow_fault_so bytes c.in-At.line c.in-At.kind plain none (subst (λ (r : SetRefusal). flow_text.IsCause (token_lines bytes) r) c.in-At.is cause))
 
 pub returns-in-At-clause-rows : goal.returns-in-At-clause-rows
-returns-in-At-clause-rows c = λ bytes plain cause.
+returns-in-At-clause-rows c = λ bytes plain rows cause.
     subst (λ (failure : Failure). IsUnset form.Claim bytes failure) (sym c.refused_at.ensures)
-    (row_fault_so bytes c.in-At.line c.in-At.kind plain (subst (λ (r : SetRefusal). row_text.IsCause (token_lines bytes) r) c.in-At.is cause))
+    (row_fault_so bytes c.in-At.line c.in-At.kind plain rows (subst (λ (r : SetRefusal). row_text.IsCause (token_lines bytes) r) c.in-At.is cause))

@@ -7,7 +7,7 @@ use Rattle.raw_set_text.specs.Texts.{token_lines}
 use Rattle.raw_report.specs.History.{entries_of, IsCause}
 use Rattle.raw_steps.specs.Taking.{numbers}
 use Rattle.raw_claim_text.specs.Marked.{mark_in}
-use Rattle.raw_inputs.proofs.Behind.{entries_below, there_below}
+use Rattle.raw_inputs.proofs.Entries.{entries_below, there_below}
 use Rattle.raw_inputs.proofs.marked.steps_in.Goals as goal
 
 pub returns-in-Ok-read_history-clause-says : goal.returns-in-Ok-read_history-clause-says

@@ -1,6 +1,9 @@
+use Rattle.raw_answer.proofs.Texts.{one_text}
+use Rattle.raw_set_text.specs.declared.kind.SetKind.TheVariants.{NotAscii, LineTooLong}
 use Rattle.raw_set_text.specs.Texts.{token_lines}
-use Rattle.raw_plan_text.proofs.Ones.{one_plan_text}
+use Rattle.raw_plan_text.specs.Plans.{IsPlan}
+use Rattle.raw_plan_text.specs.Meaning.{IsMeaning, IsFault}
 use Rattle.raw_plan_text.proofs.laws.law_one_plan_text.Goals as goal
 
 pub returns : goal.returns
-returns c bytes = one_plan_text bytes (c.law_one_answer.ensures (token_lines bytes)) (c.law_one_text.ensures bytes)
+returns c bytes = one_text NotAscii LineTooLong IsFault bytes IsMeaning IsPlan (c.law_one_answer.ensures (token_lines bytes))

@@ -2,11 +2,12 @@ use Rattle.std.proofs.Common.{◌≡◌, ◌<◌, ◌+◌, ◌++◌, ◌∷◌, 
 use Rattle.std.proofs.lemmas.List.{take_all}
 use Rattle.std.proofs.lemmas.Result.{err_from_is_err_and}
 use Rattle.raw_text.specs.Text.{text_lines}
+use Rattle.raw_answer.specs.Places.{AreFaultless}
+use Rattle.raw_answer.proofs.Places.{more_faultless}
 use Rattle.raw_asm.specs.Tokens.{tokens_of}
 use Rattle.raw_plan_text.specs.Faults.{line_fault}
-use Rattle.raw_plan_text.specs.Meaning.{entries_of, AreFaultless}
+use Rattle.raw_plan_text.specs.Meaning.{entries_of, place_fault}
 use Rattle.raw_plan_text.specs.Answers.{Names, Stands}
-use Rattle.raw_plan_text.proofs.Least.{faultless_more}
 use Rattle.raw_plan_text.proofs.Steps.{entries_more, fault_of_line}
 use Rattle.raw_plan_text.proofs.Whole.{line_cause, all_read, none_read, few_hauls}
 use Rattle.raw_plan_text.proofs.reader.read_plan.Goals as goal
@@ -33,7 +34,7 @@ loop-place-preserved c =
     let line : tokens_of c.line.result ≡ get_or lines place [] = c.line.ensures ∙ ap (λ ls. get_or ls place []) at.same in
     record {
       same = at.same;
-      faultless = faultless_more lines place at.faultless (fault_of_line lines place there ∙ ap (line_fault entries) (sym line) ∙ c.in_ok-plan.ensures.fault entries at.stands);
+      faultless = more_faultless (place_fault lines) place at.faultless (fault_of_line lines place there ∙ ap (line_fault entries) (sym line) ∙ c.in_ok-plan.ensures.fault entries at.stands);
       stands = subst (Stands c.in_ok-plan.plan) (sym (entries_more lines place there ∙ ap (λ l. entries ++ entries_of (l ∷ [])) (sym line))) (c.in_ok-plan.ensures.stands entries at.stands);
     }
 
@@ -43,11 +44,11 @@ returns-in-Some-clause-meaning c =
     let at = c.loop-place.invariant in
     let last : c.loop-place.place ≡ length lines = omega (arith, ap length at.same) in
     let stands = subst (λ plan. Stands plan (entries_of (take c.loop-place.place lines))) c.in-Some.is at.stands in
-    all_read lines c.in-Some.plan (subst (AreFaultless lines) last at.faultless)
+    all_read lines c.in-Some.plan (subst (AreFaultless (place_fault lines)) last at.faultless)
     (subst (λ front. Stands (Some c.in-Some.plan) (entries_of front)) (take_all c.loop-place.place lines (omega (arith, last))) stands)
 
 pub returns-in-Some-clause-valid : goal.returns-in-Some-clause-valid
-returns-in-Some-clause-valid c = c.law_valid.ensures (text_lines c.args.text.now) c.in-Some.plan (returns-in-Some-clause-meaning c)
+returns-in-Some-clause-valid c = (c.law_one_answer.ensures (text_lines c.args.text.now)).valid c.in-Some.plan (returns-in-Some-clause-meaning c)
 
 pub returns-in-Some-clause-few : goal.returns-in-Some-clause-few
 returns-in-Some-clause-few c =
@@ -62,5 +63,5 @@ returns-in-None-clause-cause c =
     rw c.refusal.ensures (
       length lines,
       omega (arith, ap length at.same),
-      none_read lines (subst (AreFaultless lines) last at.faultless) (sym (ap entries_of (take_all c.loop-place.place lines (omega (arith, last)))) ∙ none),
+      none_read lines (subst (AreFaultless (place_fault lines)) last at.faultless) (sym (ap entries_of (take_all c.loop-place.place lines (omega (arith, last)))) ∙ none),
     )

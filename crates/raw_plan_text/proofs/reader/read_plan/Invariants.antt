@@ -1,7 +1,8 @@
 use Rattle.std.proofs.Common.{◌≡◌, take}
 use Rattle.raw_text.specs.Text.{text_lines}
+use Rattle.raw_answer.specs.Places.{AreFaultless}
 use Rattle.raw_asm.specs.Tokens.{section_lines}
-use Rattle.raw_plan_text.specs.Meaning.{entries_of, AreFaultless}
+use Rattle.raw_plan_text.specs.Meaning.{entries_of, place_fault}
 use Rattle.raw_plan_text.specs.Answers.{Stands}
 use Rattle.raw_plan_text.proofs.reader.read_plan.Given as goal
 
@@ -9,6 +10,6 @@ use Rattle.raw_plan_text.proofs.reader.read_plan.Given as goal
 abbrev pub invariant-loop-place : goal.invariant-loop-place
 invariant-loop-place l = record {
   same : section_lines l.lines ≡ text_lines l.text;
-  faultless : AreFaultless (text_lines l.text) l.place;
+  faultless : AreFaultless (place_fault (text_lines l.text)) l.place;
   stands : Stands l.plan (entries_of (take l.place (text_lines l.text)));
 }

@@ -5,9 +5,9 @@ use Rattle.std.specs.List.{All, filter_map}
 use Rattle.std.proofs.lemmas.List.{take_all, take_rest, length-drop}
 use Rattle.raw_text.specs.Text.{text_lines}
 use Rattle.raw_asm.specs.Tokens.{tokens_of, section_lines}
-use Rattle.raw_flow_text.specs.Least.{AreFaultless}
+use Rattle.raw_answer.specs.Places.{AreFaultless}
 use Rattle.raw_flow_text.specs.Building.{Answers}
-use Rattle.raw_flow_text.proofs.Least.{passed}
+use Rattle.raw_flow_text.proofs.Causes.{passed}
 use Rattle.raw_stream_text.specs.Seated.{IsNear}
 use Rattle.raw_stream_text.specs.Forms.{line_statement}
 use Rattle.raw_stream_text.specs.Faults.{line_fault}

@@ -1,6 +1,6 @@
 use Rattle.std.specs.Option.{option_map}
 use Rattle.raw_asm.specs.Tokens.{section_lines}
-use Rattle.raw_flow_text.specs.Least.{AreFaultless}
+use Rattle.raw_answer.specs.Places.{AreFaultless}
 use Rattle.raw_stream_text.specs.Meaning.{said_before, said_in, fault_at}
 use Rattle.raw_stream_text.specs.Building.{Stands}
 use Rattle.raw_stream_text.proofs.reader.read_stream_from.Given as goal
