@@ -63,7 +63,7 @@ text_fault_so input line kind refusal is fault =
     (text_fault NotAscii LineTooLong row_text.IsFault input refusal is line kind fault)
 
 -- ---- one answer
-claim_by : (rows : Bool) (input : List ℕ) → claim.IsOneText input → rows.IsOneText input → HasOneAnswer (SaysClaimBy rows input) (IsClaimFaultBy rows input) IsSet
+claim_by : (b : Bool) (input : List ℕ) → claim.IsOneText input → rows.IsOneText input → HasOneAnswer (SaysClaimBy b input) (IsClaimFaultBy b input) IsSet
 claim_by false input one stream =
     seen_answer one (λ said. said.0) (SaysClaimBy false input) IsSet (λ said m. (said.1.fed.flow, said.1.places, (said.1.fed.inputs, m)))
     (λ set says. ((set, record { fed = record { flow = says.0; inputs = says.2.0 }; places = says.1 }), says.2.1, refl)) (λ said valid. valid.0)
