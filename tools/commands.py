@@ -286,8 +286,8 @@ def said():
     named = {it.name for it in COMMANDS}
     options = {name for it in OPTIONS for name in it.names}
     fixed = {it for it in named if it.startswith("-")}
-    yield "crates/raw_command_line/specs/Words.antt", \
-        set(re.findall(r'codes "(.*?)"', text_of("crates/raw_command_line/specs/Words.antt"))), named | options
+    yield "crates/raw_command_line/specs/Arguments.antt", \
+        set(re.findall(r'codes "(.*?)"', text_of("crates/raw_command_line/specs/Arguments.antt"))), named | options
     yield f"{MANUAL}, COMMANDS", {names[0] for names, _ in entries(section(MANUAL, "COMMANDS"))}, named
     told = collections.defaultdict(set)
     for names, bold in entries(section(MANUAL, "OPTIONS")):

@@ -17,7 +17,7 @@ use Rattle.raw_claim_text.specs.declared.builder.ClaimBuilder.{ClaimBuilder}
 use Rattle.raw_claim_text.specs.Forms.{plain_line}
 use Rattle.raw_claim_text.specs.Placing.{place_said, said_places, said_in, line_fault}
 use Rattle.raw_claim_text.specs.Lines.{size_of, fault_at, PlacedFlow, placed_in, IsMeaning, IsCause}
-use Rattle.raw_claim_text.specs.Building.{Stands}
+use Rattle.raw_claim_text.specs.Building.{ClaimStands}
 use Rattle.raw_claim_text.proofs.Lines.{line_at, end_at, fed_is_lawful, take_next}
 
 module _ (topo : Topology) (from : ℕ) (lines : List (List (List ℕ))) where
@@ -29,8 +29,8 @@ module _ (topo : Topology) (from : ℕ) (lines : List (List (List ℕ))) where
   pub line_passes : (k : ℕ) → k < length lines → AreFaultless (fault_at topo lines) k → fault_behind k ≡ None → AreFaultless (fault_at topo lines) (k + 1)
   line_passes k lt before none = more_faultless (fault_at topo lines) k before (line_at topo lines k lt ∙ none)
 
-  pub stands_next : (builder : ClaimBuilder) (k : ℕ) → k < length lines → Stands topo builder (take k lines ++ get_or lines k [] ∷ []) → Stands topo builder (take (k + 1) lines)
-  stands_next builder k lt stands = subst (Stands topo builder) (sym (take_next topo lines k lt)) stands
+  pub stands_next : (builder : ClaimBuilder) (k : ℕ) → k < length lines → ClaimStands topo builder (take k lines ++ get_or lines k [] ∷ []) → ClaimStands topo builder (take (k + 1) lines)
+  stands_next builder k lt stands = subst (ClaimStands topo builder) (sym (take_next topo lines k lt)) stands
 
   pub line_refused : (T : Type 0) (k number : ℕ) (refusal : SetRefusal) → number ≡ k + 1 + from → k < length lines → AreFaultless (fault_at topo lines) k → Answers {T = T} (Err refusal) number (fault_behind k) → IsCause topo from lines refusal
   line_refused T k number refusal is lt before answers =

@@ -8,11 +8,11 @@ ghost use Rattle.raw_flow_text.specs.Statement.{Statement};
 ghost use Rattle.raw_flow_text.specs.Forms.{line_statement};
 ghost use Rattle.raw_flow_text.specs.Faults as flow_line;
 ghost use Rattle.raw_flow_text.specs.Building.{Answers, node_count};
-ghost use Rattle.raw_flow_text.specs.Building.{Stands as FlowStands};
+ghost use Rattle.raw_flow_text.specs.Building.{BuilderStands as FlowStands};
 ghost use Rattle.raw_claim_text.specs.Forms.{is_plain_out, plain_line};
 ghost use Rattle.raw_claim_text.specs.Placing.{said_places, said_in, place_said, place_in, past_fault, line_fault};
 ghost use Rattle.raw_claim_text.specs.Lines.{size_of};
-ghost use Rattle.raw_claim_text.specs.Building.{Stands};
+ghost use Rattle.raw_claim_text.specs.Building.{ClaimStands};
 
 use crate::named::{is_plain_out, names_place};
 use crate::placing::place_said;
@@ -140,7 +140,7 @@ fn plain_with(plain: bool, line: &Tokens<'_>) -> bool
 impl<'a> ClaimBuilder<'a> {
     /// A claim of which no line is added yet.
     pub(crate) fn new(alloc: Global) -> ClaimBuilder<'a>
-        ensures stands { (topo : Topology) → Stands topo result [] }
+        ensures stands { (topo : Topology) → ClaimStands topo result [] }
         ensures empty { node_count result.flow ≡ 0 }
         ensures none { length result.places.items ≡ 0 }
     {
@@ -161,11 +161,11 @@ impl<'a> ClaimBuilder<'a> {
     ) -> Result<(), SetRefusal>
         requires few { node_count self.old.flow < MAX_TEXT }
         requires room { length self.old.places.items < MAX_TEXT }
-        ensures fault { (lines : List (List (List ℕ))) → Stands topo.now self.old lines → Answers result number
+        ensures fault { (lines : List (List (List ℕ))) → ClaimStands topo.now self.old lines → Answers result number
             (line_fault (flow_line.line_fault (Some (size_of topo.now)) (said_in lines) (plain_line (tokens_of line.now)))
             (place_said topo.now (said_places topo.now lines) (tokens_of line.now))) }
-        ensures stands { (lines : List (List (List ℕ))) → Stands topo.now self.old lines →
-            OnOk result (Stands topo.now self.new (lines ++ tokens_of line.now ∷ [])) }
+        ensures stands { (lines : List (List (List ℕ))) → ClaimStands topo.now self.old lines →
+            OnOk result (ClaimStands topo.now self.new (lines ++ tokens_of line.now ∷ [])) }
         ensures few { OnOk result (node_count self.new.flow ≤ node_count self.old.flow + 1) }
         ensures room { OnOk result (length self.new.places.items ≤ length self.old.places.items + 1) }
     {

@@ -20,8 +20,8 @@ use Rattle.raw_model.specs.Rest.{IsQuiet, is_trapped, is_at_limit}
 use Rattle.raw_model.specs.Waits.{waits_for, other_end, inputs_at, outputs_at}
 use Rattle.raw_model.specs.Outcomes.Outcome.{Done, Deadlock, Trapped, Limit, Stuck}
 use Rattle.raw_model.specs.Outcomes.{Outcome, outcome, IsOutcome, is_unhalted}
-use Rattle.raw_codegen.specs.Script.{Part}
-use Rattle.raw_codegen.specs.Standing.{IsScript, Stands, PortsAreStopped, HasHalted}
+use Rattle.raw_codegen.specs.Parts.{Part}
+use Rattle.raw_codegen.specs.Standing.{IsScript, PartsStand, PortsAreStopped, HasHalted}
 use Rattle.raw_codegen.specs.Steps.{Leads}
 use Rattle.raw_codegen.proofs.Given.{Laws}
 use Rattle.raw_codegen.proofs.Halting.{Halting, halt_all}
@@ -131,7 +131,7 @@ module _ (set : ProgramSet) (all : List Part) (memories : ℕ → List ℕ) (fir
       by (Limit p) h = absurd (none_first (is_at_limit set) (λ q l e. (all_over q l e).limit) p h.2.there h.2.passes)
       by (Stuck p) h = absurd (none_first is_unhalted (λ q l e. (all_over q l e).unhalted) p h.3.there h.3.passes)
 
-pub comes_to_rest : Laws → (set : ProgramSet) (all : List Part) (memories : ℕ → List ℕ) (s : MachineState) → IsScript set all → Stands set all memories s → PortsAreStopped set s
+pub comes_to_rest : Laws → (set : ProgramSet) (all : List Part) (memories : ℕ → List ℕ) (s : MachineState) → IsScript set all → PartsStand set all memories s → PortsAreStopped set s
     → Leads set s (λ r. HasHalted set memories s r)
 comes_to_rest laws set all memories s script old ports =
     let P : MachineState → Type 0 = Halting set all memories s (tile_count set.topo) (tile_count set.topo) in

@@ -9,7 +9,7 @@ use Rattle.raw_tile_isa.specs.declared.limits.TheConstants.{MAX_TILE_CODE}
 use Rattle.raw_tile_isa.specs.Instruction.{Instruction}
 use Rattle.raw_switch_isa.specs.Instruction.{SwitchInstruction}
 use Rattle.raw_model.specs.Program.{TileProgram}
-use Rattle.raw_codegen.specs.Script.{Part, ToTile, ToSwitch, tile_part, switch_part, program_of, programs_of, Gives}
+use Rattle.raw_codegen.specs.Parts.{Part, ToTile, ToSwitch, tile_part, switch_part, program_of, programs_of, Gives}
 use Rattle.raw_codegen.specs.Limits.{Overflows}
 use Rattle.raw_codegen.proofs.Parts.{tile_part-append, switch_part-append, block_here, block_there, switch_here, switch_there}
 

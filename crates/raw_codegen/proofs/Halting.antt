@@ -17,8 +17,8 @@ use Rattle.raw_model.specs.SwitchTable.{effect_of}
 use Rattle.raw_model.specs.Machine.{tile_code, switch_code, tile_takes, tile_sends, switch_takes, switch_sends, given_to, switch_network_row, sent_to}
 use Rattle.raw_model.specs.Start.{MachineState}
 use Rattle.raw_model.proofs.Counts.{sent_none}
-use Rattle.raw_codegen.specs.Script.{Part, tile_part, switch_part}
-use Rattle.raw_codegen.specs.Standing.{IsScript, Stands, SamePorts}
+use Rattle.raw_codegen.specs.Parts.{Part, tile_part, switch_part}
+use Rattle.raw_codegen.specs.Standing.{IsScript, PartsStand, SamePorts}
 use Rattle.raw_codegen.specs.Steps.{Leads, IsNext, Changed, SameWires}
 use Rattle.raw_codegen.specs.Straight.{at_tile, at_switch, core_with}
 use Rattle.raw_codegen.proofs.Moves.{stay, then, more, plain_step}
@@ -58,7 +58,7 @@ pub record Halting (set : ProgramSet) (all : List Part) (memories : ℕ → List
   pub ports : SamePorts set first s
   pub wires : SameWires first.wires s.wires
 
-pub first_halting : (set : ProgramSet) (all : List Part) (memories : ℕ → List ℕ) (s : MachineState) → Stands set all memories s → Halting set all memories s 0 0 s
+pub first_halting : (set : ProgramSet) (all : List Part) (memories : ℕ → List ℕ) (s : MachineState) → PartsStand set all memories s → Halting set all memories s 0 0 s
 first_halting set all memories s old = record {
   tiles_done = λ t h k. absurd (omega arith);
   tiles_left = λ t h k. old.tiles t k;
@@ -165,7 +165,7 @@ module _ (set : ProgramSet) (all : List Part) (script : IsScript set all) (memor
       then set s (Halting set all memories first a (b + 1)) (Halting set all memories first a (tile_count set.topo))
       (halt_switch a b s (omega arith) old) (λ r h. halt_switches m a (b + 1) r (omega arith) h)
 
-  pub halt_all : Stands set all memories first → Leads set first (Halting set all memories first (tile_count set.topo) (tile_count set.topo))
+  pub halt_all : PartsStand set all memories first → Leads set first (Halting set all memories first (tile_count set.topo) (tile_count set.topo))
   halt_all old =
       let n : ℕ = tile_count set.topo in
       then set first (Halting set all memories first n 0) (Halting set all memories first n n)

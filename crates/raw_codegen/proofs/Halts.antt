@@ -12,7 +12,7 @@ use Rattle.raw_tile_isa.specs.Made as tile
 use Rattle.raw_switch_isa.specs.Instruction.{SwitchInstruction}
 use Rattle.raw_switch_isa.specs.Made as switch
 use Rattle.raw_model.specs.Program.{TileProgram}
-use Rattle.raw_codegen.specs.Script.{Part, ToTile, ToSwitch, tile_part, switch_part, program_of, programs_of, Gives, script_program, script_programs, halts_to}
+use Rattle.raw_codegen.specs.Parts.{Part, ToTile, ToSwitch, tile_part, switch_part, program_of, programs_of, Gives, script_program, script_programs, halts_to}
 use Rattle.raw_codegen.specs.Limits.{IsShort, AreShort, IsTooLong, Overflows}
 use Rattle.raw_codegen.proofs.Giving.{range_more, gives_both, same_program}
 use Rattle.raw_codegen.proofs.Parts.{tile_part-append, switch_part-append}

@@ -17,7 +17,7 @@ use Rattle.raw_grid.specs.declared.parts.Net.{Net}
 use Rattle.raw_grid.specs.declared.parts.Net.TheVariants.{One, Two}
 use Rattle.raw_grid.specs.Topology.{Topology, tile_count, switch_number}
 use Rattle.raw_model.specs.Program.{TileProgram, IsDataWord, IsTileProgram, HaveWires, has_wires}
-use Rattle.raw_codegen.specs.Script.{Part, ToTile, ToSwitch, tile_part, switch_part, to_tile, script_program, script_programs}
+use Rattle.raw_codegen.specs.Parts.{Part, ToTile, ToSwitch, tile_part, switch_part, to_tile, script_program, script_programs}
 use Rattle.raw_codegen.specs.Lawful.{AreParts}
 use Rattle.raw_codegen.specs.Limits.{IsShort, AreShort}
 use Rattle.raw_codegen.specs.Rows.{register_of, send_ins, load_ins, store_ins}

@@ -8,7 +8,7 @@ use Rattle.std.proofs.lemmas.List.{append-nil}
 use Rattle.std.proofs.lemmas.Grind.{flat_map-append}
 use Rattle.raw_tile_isa.specs.Instruction.{Instruction}
 use Rattle.raw_switch_isa.specs.Instruction.{SwitchInstruction}
-use Rattle.raw_codegen.specs.Script.{Part, ToSwitch, for_tile, for_switch, tile_part, switch_part, to_tile, to_switches}
+use Rattle.raw_codegen.specs.Parts.{Part, ToSwitch, for_tile, for_switch, tile_part, switch_part, to_tile, to_switches}
 
 pub tile_part-append : (t : ℕ) (xs ys : List Part) → tile_part t (xs ++ ys) ≡ tile_part t xs ++ tile_part t ys
 tile_part-append t xs ys = flat_map-append (for_tile t) xs ys

@@ -12,7 +12,7 @@ use Rattle.raw_switch_isa.specs.Made as switch
 use Rattle.raw_grid.specs.Topology.{tile_count, switch_number}
 use Rattle.raw_model.specs.Program.{ProgramSet, IsTileProgram}
 use Rattle.raw_model.specs.Machine.{program_code, program_switch, tile_code, switch_code}
-use Rattle.raw_codegen.specs.Script.{Part, tile_part, switch_part, script_program}
+use Rattle.raw_codegen.specs.Parts.{Part, tile_part, switch_part, script_program}
 use Rattle.raw_codegen.specs.Standing.{IsScript}
 use Rattle.raw_codegen.proofs.Parts.{tile_part-append, switch_part-append}
 

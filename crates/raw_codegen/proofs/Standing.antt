@@ -23,8 +23,8 @@ use Rattle.raw_model.specs.TileTable.{mark_at}
 use Rattle.raw_model.specs.SwitchTable.{effect_of}
 use Rattle.raw_model.specs.Machine.{tile_code, switch_code, switch_takes, switch_sends, given_to, switch_network_row}
 use Rattle.raw_model.specs.Start.{MachineState, Fits, FitsTile, memory_size}
-use Rattle.raw_codegen.specs.Script.{Part, ToTile, ToSwitch, tile_part, switch_part, to_tile}
-use Rattle.raw_codegen.specs.Standing.{to_tile_wire, from_tile_wire, IsScript, Stands, HasGone, SameBut}
+use Rattle.raw_codegen.specs.Parts.{Part, ToTile, ToSwitch, tile_part, switch_part, to_tile}
+use Rattle.raw_codegen.specs.Standing.{to_tile_wire, from_tile_wire, IsScript, PartsStand, HasGone, SameBut}
 use Rattle.raw_codegen.specs.Steps.{Leads, IsNext, one_value, Changed, SameWires, HasCome, IsGone, HasPassed}
 use Rattle.raw_codegen.specs.Straight.{Core, IsCore, at_tile, at_switch, core_with, Turns, SendsWord, TakesWord, PassesOn}
 use Rattle.raw_codegen.proofs.Given.{Laws, to_joins, from_joins}
@@ -40,7 +40,7 @@ core_is set s t k c fits here =
     let f : FitsTile set.limit _ (at_tile k c) = (fits.locals t (Tile (at_tile k c)) here).1 in
     record { registers = f.registers; register_0 = f.register_0; memory = f.memory }
 
-module _ (set : ProgramSet) (parts : List Part) (memories : ℕ → List ℕ) (s r : MachineState) (old : Stands set parts memories s) (fits : Fits set r) where
+module _ (set : ProgramSet) (parts : List Part) (memories : ℕ → List ℕ) (s r : MachineState) (old : PartsStand set parts memories s) (fits : Fits set r) where
   -- a tile has executed a block
   pub gone_tile : (after : ℕ → List ℕ) (t : ℕ) (block : List Instruction) (regs : List ℕ) → t < tile_count set.topo
       → Changed s r t (Tile (at_tile (length (tile_part t parts) + length block) (core_with regs (after t)))) → SameBut t memories after
@@ -120,7 +120,7 @@ same_memory : (t : ℕ) (memories : ℕ → List ℕ) → SameBut t memories mem
 same_memory t memories = record { at = λ u ne. refl }
 
 module _ (laws : Laws) (set : ProgramSet) (all parts rest : List Part) (t : ℕ) (memories after : ℕ → List ℕ) (s : MachineState)
-    (script : IsScript set all) (within : t < tile_count set.topo) (old : Stands set parts memories s) where
+    (script : IsScript set all) (within : t < tile_count set.topo) (old : PartsStand set parts memories s) where
   abbrev regs : List ℕ
   regs = (old.tiles t within).0
 

@@ -13,8 +13,8 @@ use Rattle.raw_model.specs.declared.marks.Mark.TheVariants.{Going}
 use Rattle.raw_model.specs.Program.{ProgramSet, TileProgram}
 use Rattle.raw_model.specs.Local.{Local, Tile, Switch}
 use Rattle.raw_model.specs.Start.{start, first_tile, first_switch, first_port, first_mark, first_memory}
-use Rattle.raw_codegen.specs.Script.{Part, tile_part, switch_part, script_program}
-use Rattle.raw_codegen.specs.Standing.{IsScript, Stands}
+use Rattle.raw_codegen.specs.Parts.{Part, tile_part, switch_part, script_program}
+use Rattle.raw_codegen.specs.Standing.{IsScript, PartsStand}
 use Rattle.raw_codegen.specs.Straight.{at_tile, at_switch, core_with}
 use Rattle.raw_codegen.proofs.Given.{Laws}
 use Rattle.raw_codegen.proofs.Scripts.{tile_there, tiles_there}
@@ -88,7 +88,7 @@ module _ (set : ProgramSet) (all : List Part) (script : IsScript set all) where
       ∙ at_back switch_locals port_locals k (tile_count set.topo) long_switches
 
   -- at the start nothing is done
-  pub first_stands : Laws → Stands set [] (λ t. first_memory []) (start set)
+  pub first_stands : Laws → PartsStand set [] (λ t. first_memory []) (start set)
   first_stands laws = record {
     tiles = λ t h. (replicate 32 0, first_at t h);
     switches = λ t h. (replicate 4 0, first_switch_at t h);

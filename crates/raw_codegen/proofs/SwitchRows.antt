@@ -19,7 +19,7 @@ use Rattle.raw_model.specs.Program.{has_wires}
 use Rattle.raw_model.proofs.Counts.{sent_none}
 use Rattle.raw_codegen.specs.Lawful.{IsPart}
 use Rattle.raw_codegen.specs.Rows.{from_side, to_side}
-use Rattle.raw_codegen.specs.Script.{ToSwitch}
+use Rattle.raw_codegen.specs.Parts.{ToSwitch}
 use Rattle.raw_codegen.specs.Straight.{PassesOn}
 
 -- each passes the value on

@@ -5,7 +5,7 @@ use Rattle.raw_tile_isa.specs.Instruction.{IsTileIns}
 use Rattle.raw_switch_isa.specs.Instruction.{IsSwitchIns}
 use Rattle.raw_grid.specs.Topology.{Topology, switch_number}
 use Rattle.raw_model.specs.Program.{has_wires}
-use Rattle.raw_codegen.specs.Script.{Part, ToTile, ToSwitch}
+use Rattle.raw_codegen.specs.Parts.{Part, ToTile, ToSwitch}
 
 -- the instruction keeps the rules, and each end that one of a switch names has a wire
 abbrev pub IsPart : Topology → Part → Type 0

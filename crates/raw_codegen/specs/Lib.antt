@@ -1,4 +1,4 @@
-pub mod Script
+pub mod Parts
 pub mod Limits
 pub mod Steps
 pub mod Straight

@@ -4,7 +4,7 @@ use Rattle.raw_tile_isa.specs.declared.limits.TheConstants.{MAX_TILE_CODE}
 use Rattle.raw_switch_isa.specs.declared.limits.TheConstants.{MAX_SWITCH_CODE}
 use Rattle.raw_model.specs.declared.limits.TheConstants.{MAX_ALL_CODE, MAX_ALL_SWITCH_CODE}
 use Rattle.raw_model.specs.Program.{TileProgram}
-use Rattle.raw_codegen.specs.Script.{Part, tile_part, switch_part, programs_of}
+use Rattle.raw_codegen.specs.Parts.{Part, tile_part, switch_part, programs_of}
 
 -- the programs of a tile and of its switch are short enough for them
 pub record IsShort (tile : TileProgram) : Type 0 where

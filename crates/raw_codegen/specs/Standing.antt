@@ -11,7 +11,7 @@ use Rattle.raw_model.specs.Start.{MachineState, Fits}
 use Rattle.raw_model.specs.Rest.{IsQuiet}
 use Rattle.raw_model.specs.Outcomes.{outcome}
 use Rattle.raw_model.specs.Outcomes.Outcome.{Done}
-use Rattle.raw_codegen.specs.Script.{Part, tile_part, switch_part, script_programs}
+use Rattle.raw_codegen.specs.Parts.{Part, tile_part, switch_part, script_programs}
 use Rattle.raw_codegen.specs.Straight.{at_tile, at_switch, core_with}
 use Rattle.raw_codegen.specs.Steps.{SameWires}
 
@@ -31,7 +31,7 @@ pub record IsScript (set : ProgramSet) (all : List Part) : Type 0 where
   pub limit : MAX_TILE_CODE < set.limit
 
 -- each tile and each switch has executed what the first parts give it, and these are the memories of the tiles
-pub record Stands (set : ProgramSet) (parts : List Part) (memories : ℕ → List ℕ) (s : MachineState) : Type 0 where
+pub record PartsStand (set : ProgramSet) (parts : List Part) (memories : ℕ → List ℕ) (s : MachineState) : Type 0 where
   pub tiles : (t : ℕ) → t < tile_count set.topo →
       (regs : List ℕ) × (slice_get s.locals t ≡ Some (Tile (at_tile (length (tile_part t parts)) (core_with regs (memories t)))))
   pub switches : (t : ℕ) → t < tile_count set.topo →
@@ -44,7 +44,7 @@ pub record SamePorts (set : ProgramSet) (before after : MachineState) : Type 0 w
 
 -- the machine has come to the end of these parts, without a step of a port
 pub record HasGone (set : ProgramSet) (parts : List Part) (memories : ℕ → List ℕ) (before after : MachineState) : Type 0 where
-  pub stands : Stands set parts memories after
+  pub stands : PartsStand set parts memories after
   pub ports : SamePorts set before after
 
 -- the memories of all tiles but one are as they were

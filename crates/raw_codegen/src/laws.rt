@@ -21,12 +21,12 @@ ghost use Rattle.raw_model.specs.Local.{Local};
 ghost use Rattle.raw_model.specs.TileTable.{gives, word_at};
 ghost use Rattle.raw_model.specs.Machine.{tile_code, switch_code};
 ghost use Rattle.raw_model.specs.Start.{MachineState, start, first_memory};
-ghost use Rattle.raw_codegen.specs.Script.{Part, ToTile, ToSwitch, tile_part, switch_part, to_tile, to_switches, Gives, script_programs};
+ghost use Rattle.raw_codegen.specs.Parts.{Part, ToTile, ToSwitch, tile_part, switch_part, to_tile, to_switches, Gives, script_programs};
 ghost use Rattle.raw_codegen.specs.Lawful.{IsPart, AreParts};
 ghost use Rattle.raw_codegen.specs.Limits.{AreShort, IsTooLong, Overflows};
 ghost use Rattle.raw_codegen.specs.Steps.{Leads, IsNext, one_value, Changed, SameWires, HasCome, IsGone, HasPassed};
 ghost use Rattle.raw_codegen.specs.Straight.{Core, IsCore, core_with, at_tile, row_of_ins, nothing, only, Does, IsPlain, IsSender, IsTaker, Runs, Turns, SendsWord, TakesWord, PassesOn};
-ghost use Rattle.raw_codegen.specs.Standing.{to_tile_wire, from_tile_wire, IsScript, Stands, HasGone, SameBut, PortsAreStopped, HasHalted};
+ghost use Rattle.raw_codegen.specs.Standing.{to_tile_wire, from_tile_wire, IsScript, PartsStand, HasGone, SameBut, PortsAreStopped, HasHalted};
 ghost use Rattle.raw_codegen.specs.Laws.{StartsWithNone, StartsIdle, StartsWithPorts, EachBlockRuns, EachSendRuns, EachTakeRuns, EachPassRuns, EachHalts};
 ghost use Rattle.raw_codegen.specs.Rows.{register_of, IsKeeping, send_ins, load_ins, store_ins, from_side, to_side, written, with_word};
 

@@ -3,7 +3,7 @@ ghost use Rattle.std.specs.Prelude.{◌≡◌, ◌↔◌, ℕ, ◌+◌, ◌<◌,
 ghost use Rattle.raw_tile_isa.specs.Load.{load};
 ghost use Rattle.raw_tile_isa.specs.Made as tile;
 ghost use Rattle.raw_switch_isa.specs.Made as switch;
-ghost use Rattle.raw_codegen.specs.Script.{Part, ToTile, ToSwitch, to_tile, programs_of, Gives, script_programs, halts_to};
+ghost use Rattle.raw_codegen.specs.Parts.{Part, ToTile, ToSwitch, to_tile, programs_of, Gives, script_programs, halts_to};
 ghost use Rattle.raw_codegen.specs.Limits.{IsShort, AreShort, Overflows};
 
 use raw_model::TileProg;

@@ -19,8 +19,8 @@ use Rattle.raw_report.specs.History.{history_text, entries_of}
 use Rattle.raw_steps.specs.declared.checking.CheckAnswer.TheVariants.{Lawful}
 use Rattle.raw_inputs.specs.declared.form.InputForm.{InputForm}
 use Rattle.raw_inputs.specs.declared.form.InputForm.TheVariants as form
-use Rattle.raw_command_line.specs.declared.words.SetForm.{SetForm}
-use Rattle.raw_command_line.specs.declared.words.RunOutput.TheVariants.{History}
+use Rattle.raw_command_line.specs.declared.arguments.SetForm.{SetForm}
+use Rattle.raw_command_line.specs.declared.arguments.RunOutput.TheVariants.{History}
 use Rattle.raw_shell.specs.declared.ending.Ending.{Ending}
 use Rattle.raw_shell.specs.declared.ending.Ending.TheVariants.{Done}
 use Rattle.raw_shell.specs.Seen.{limit}

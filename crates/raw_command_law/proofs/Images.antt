@@ -5,9 +5,9 @@ use Rattle.raw_set_text.specs.Texts.{Meaning}
 use Rattle.raw_set_text.specs.Listing.{listing}
 use Rattle.raw_image.specs.Image.{Image, image, number}
 use Rattle.raw_names.specs.Names.{names_text}
-use Rattle.raw_command_line.specs.declared.words.SetForm.{SetForm}
-use Rattle.raw_command_line.specs.declared.words.SetForm.TheVariants as set_form
-use Rattle.raw_command_line.specs.declared.words.TraceOptions.{TraceOptions}
+use Rattle.raw_command_line.specs.declared.arguments.SetForm.{SetForm}
+use Rattle.raw_command_line.specs.declared.arguments.SetForm.TheVariants as set_form
+use Rattle.raw_command_line.specs.declared.arguments.TraceOptions.{TraceOptions}
 use Rattle.raw_inputs.specs.declared.form.InputForm.{InputForm}
 use Rattle.raw_inputs.specs.declared.form.InputForm.TheVariants as form
 use Rattle.raw_shell.specs.declared.ending.Ending.{Ending}

@@ -26,12 +26,12 @@ use Rattle.raw_either_flow.specs.Texts.{IsOneText}
 use Rattle.raw_schedule.specs.Whole.{with_programs, IsSetFor}
 use Rattle.raw_model.specs.Fed.{fed as fed_with}
 use Rattle.raw_term.specs.Claims.{Meets, IsRight, AreWords}
-use Rattle.raw_command_line.specs.declared.words.SetForm.TheVariants as set_form
+use Rattle.raw_command_line.specs.declared.arguments.SetForm.TheVariants as set_form
 use Rattle.raw_inputs.specs.declared.form.InputForm.{InputForm}
 use Rattle.raw_inputs.specs.declared.form.InputForm.TheVariants as form
-use Rattle.raw_command_line.specs.declared.words.StateOutput.TheVariants.{Report}
-use Rattle.raw_command_line.specs.declared.words.RunOutput.TheVariants.{State}
-use Rattle.raw_command_line.specs.declared.words.ReadingCommand.TheVariants.{Run}
+use Rattle.raw_command_line.specs.declared.arguments.StateOutput.TheVariants.{Report}
+use Rattle.raw_command_line.specs.declared.arguments.RunOutput.TheVariants.{State}
+use Rattle.raw_command_line.specs.declared.arguments.ReadingCommand.TheVariants.{Run}
 use Rattle.raw_shell.specs.declared.ending.Ending.{Ending}
 use Rattle.raw_shell.specs.declared.ending.Ending.TheVariants.{Done}
 use Rattle.raw_shell.specs.Answers.{ending_of}

@@ -2,11 +2,11 @@
 use Rattle.std.specs.Prelude.{◌≡◌, ℕ, ◌≤◌, List, ◌++◌, codes, decimal, length, Option}
 use Rattle.raw_model.specs.Program.{ProgramSet}
 use Rattle.raw_model.specs.Rest.{IsRun}
-use Rattle.raw_command_line.specs.declared.words.SetForm.{SetForm}
-use Rattle.raw_command_line.specs.declared.words.RunOptions.{RunOptions}
-use Rattle.raw_command_line.specs.declared.words.RunOutput.TheVariants.{History}
-use Rattle.raw_command_line.specs.declared.words.ReadingCommand.TheVariants as reading
-use Rattle.raw_command_line.specs.declared.words.Command.TheVariants.{Reads}
+use Rattle.raw_command_line.specs.declared.arguments.SetForm.{SetForm}
+use Rattle.raw_command_line.specs.declared.arguments.RunOptions.{RunOptions}
+use Rattle.raw_command_line.specs.declared.arguments.RunOutput.TheVariants.{History}
+use Rattle.raw_command_line.specs.declared.arguments.ReadingCommand.TheVariants as reading
+use Rattle.raw_command_line.specs.declared.arguments.Command.TheVariants.{Reads}
 use Rattle.raw_shell.specs.declared.ending.Ending.{Ending}
 use Rattle.raw_shell.specs.declared.ending.Ending.TheVariants.{Done}
 use Rattle.raw_shell.specs.Seen.{limit}

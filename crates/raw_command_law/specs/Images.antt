@@ -4,11 +4,11 @@ use Rattle.raw_model.specs.Program.{ProgramSet}
 use Rattle.raw_set_text.specs.Texts.{Meaning}
 use Rattle.raw_set_text.specs.Listing.{listing}
 use Rattle.raw_image.specs.Image.{Image, image, number}
-use Rattle.raw_command_line.specs.declared.words.SetForm.TheVariants as set_form
-use Rattle.raw_command_line.specs.declared.words.RunOutput.{RunOutput}
-use Rattle.raw_command_line.specs.declared.words.TraceOptions.{TraceOptions}
-use Rattle.raw_command_line.specs.declared.words.ReadingCommand.TheVariants as reading
-use Rattle.raw_command_line.specs.declared.words.Command.TheVariants.{Reads}
+use Rattle.raw_command_line.specs.declared.arguments.SetForm.TheVariants as set_form
+use Rattle.raw_command_line.specs.declared.arguments.RunOutput.{RunOutput}
+use Rattle.raw_command_line.specs.declared.arguments.TraceOptions.{TraceOptions}
+use Rattle.raw_command_line.specs.declared.arguments.ReadingCommand.TheVariants as reading
+use Rattle.raw_command_line.specs.declared.arguments.Command.TheVariants.{Reads}
 use Rattle.raw_shell.specs.declared.ending.Ending.{Ending}
 use Rattle.raw_owed.specs.Owed.{Owes, IsTracedWith}
 use Rattle.raw_owed.specs.Owed.{Accepts}

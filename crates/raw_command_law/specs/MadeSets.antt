@@ -19,13 +19,13 @@ use Rattle.raw_stream_text.specs.Texts.{StreamMeaning}
 use Rattle.raw_choice.specs.Choice.{IsChoice}
 use Rattle.raw_stream_choice.specs.Choice.{IsStreamChoice}
 use Rattle.raw_term.specs.Claims as claims
-use Rattle.raw_command_line.specs.declared.words.SetForm.TheVariants as set_form
-use Rattle.raw_command_line.specs.declared.words.RunOptions.{RunOptions}
-use Rattle.raw_command_line.specs.declared.words.StateOutput.TheVariants.{Report}
-use Rattle.raw_command_line.specs.declared.words.RunOutput.TheVariants.{State}
-use Rattle.raw_command_line.specs.declared.words.FlowSet.TheVariants.{Compiled, Scheduled}
-use Rattle.raw_command_line.specs.declared.words.ReadingCommand.TheVariants as reading
-use Rattle.raw_command_line.specs.declared.words.Command.TheVariants.{Reads}
+use Rattle.raw_command_line.specs.declared.arguments.SetForm.TheVariants as set_form
+use Rattle.raw_command_line.specs.declared.arguments.RunOptions.{RunOptions}
+use Rattle.raw_command_line.specs.declared.arguments.StateOutput.TheVariants.{Report}
+use Rattle.raw_command_line.specs.declared.arguments.RunOutput.TheVariants.{State}
+use Rattle.raw_command_line.specs.declared.arguments.FlowSet.TheVariants.{Compiled, Scheduled}
+use Rattle.raw_command_line.specs.declared.arguments.ReadingCommand.TheVariants as reading
+use Rattle.raw_command_line.specs.declared.arguments.Command.TheVariants.{Reads}
 use Rattle.raw_shell.specs.declared.ending.Ending.{Ending}
 use Rattle.raw_shell.specs.declared.ending.Ending.TheVariants.{Done}
 use Rattle.raw_inputs.specs.Inputs.{planned_of, compiled_of}

@@ -2,9 +2,9 @@
 use Rattle.std.proofs.Common.{◌≡◌, ℕ, true, false, List, [], ◌∷◌, Option, Some, None, refl, sym}
 use Rattle.std.specs.Option.{option_and_then}
 use Rattle.raw_text.specs.Number.{number_of}
-use Rattle.raw_command_line.specs.declared.words.CommandOption.{CommandOption}
-use Rattle.raw_command_line.specs.declared.words.Options.{Options}
-use Rattle.raw_command_line.specs.Words.{plain_option, takes_number, number_option, behind, options_in, with_option, with_first, with_options, with_words}
+use Rattle.raw_command_line.specs.declared.arguments.CommandOption.{CommandOption}
+use Rattle.raw_command_line.specs.declared.arguments.Options.{Options}
+use Rattle.raw_command_line.specs.Arguments.{plain_option, takes_number, number_option, behind, options_in, with_option, with_first, with_options, with_words}
 
 -- where nothing can be said, nothing more can
 pub none_with : (options : List CommandOption) → with_options None options ≡ None

@@ -3,15 +3,15 @@ use Rattle.std.proofs.Common.{◌≡◌, ℕ, Bool, true, false, List, [], ◌�
 use Rattle.std.proofs.lemmas.Slice.Eq.{bytes_eq-Decides}
 use Rattle.std.specs.Option.{option_and_then}
 use Rattle.raw_text.specs.Number.{number_of}
-use Rattle.raw_command_line.specs.declared.words.SetForm.{SetForm}
-use Rattle.raw_command_line.specs.declared.words.FlowSet.{FlowSet}
-use Rattle.raw_command_line.specs.declared.words.Extra.{Extra}
-use Rattle.raw_command_line.specs.declared.words.CommandOption.{CommandOption}
-use Rattle.raw_command_line.specs.declared.words.CommandOption.TheVariants.{Form, Workers, From, Cycles, More, Made}
-use Rattle.raw_command_line.specs.declared.words.Options.{Options}
-use Rattle.raw_command_line.specs.declared.words.ReadingCommand.TheVariants.{ProveLive}
-use Rattle.raw_command_line.specs.declared.words.Command.TheVariants.{Reads}
-use Rattle.raw_command_line.specs.Words.{nothing_said, with_option, with_options, takes_number, plain_option, options_in, options_of, command_named, work_on, asks_live_proof, other_command, command_of}
+use Rattle.raw_command_line.specs.declared.arguments.SetForm.{SetForm}
+use Rattle.raw_command_line.specs.declared.arguments.FlowSet.{FlowSet}
+use Rattle.raw_command_line.specs.declared.arguments.Extra.{Extra}
+use Rattle.raw_command_line.specs.declared.arguments.CommandOption.{CommandOption}
+use Rattle.raw_command_line.specs.declared.arguments.CommandOption.TheVariants.{Form, Workers, From, Cycles, More, Made}
+use Rattle.raw_command_line.specs.declared.arguments.Options.{Options}
+use Rattle.raw_command_line.specs.declared.arguments.ReadingCommand.TheVariants.{ProveLive}
+use Rattle.raw_command_line.specs.declared.arguments.Command.TheVariants.{Reads}
+use Rattle.raw_command_line.specs.Arguments.{nothing_said, with_option, with_options, takes_number, plain_option, options_in, options_of, command_named, work_on, asks_live_proof, other_command, command_of}
 use Rattle.raw_command_line.specs.WordOrder.{IsOrderOf, AreAlike, are_of_kind, SayTwice, IsFreeOfOrder, IsNoCommand}
 use Rattle.raw_command_line.proofs.Options.{none_with}
 

@@ -1,9 +1,9 @@
 -- The options behind the name of a command stand in any order, and none of a kind twice.
 use Rattle.std.specs.Prelude.{◌≡◌, ℕ, Bool, true, false, List, [], ◌∷◌, ◌++◌, codes, Some, None}
 use Rattle.std.specs.Str.{bytes_eq}
-use Rattle.raw_command_line.specs.declared.words.CommandOption.{CommandOption}
-use Rattle.raw_command_line.specs.declared.words.CommandOption.TheVariants.{Form, Workers, From, Cycles, More, Made}
-use Rattle.raw_command_line.specs.Words.{options_in, command_of}
+use Rattle.raw_command_line.specs.declared.arguments.CommandOption.{CommandOption}
+use Rattle.raw_command_line.specs.declared.arguments.CommandOption.TheVariants.{Form, Workers, From, Cycles, More, Made}
+use Rattle.raw_command_line.specs.Arguments.{options_in, command_of}
 
 -- the second list has the options of the first in some order: the first option stands somewhere in it, and what is left of it has the others
 abbrev pub IsOrderOf : List CommandOption → List CommandOption → Type 0

@@ -1,12 +1,12 @@
 //! The words of the command line of `rawgrid`: the command that they are, with its options, or that they are none.
 #![tactic(auto)]
 
+mod arguments;
 mod laws;
 mod limits;
-mod words;
 
-pub use laws::law_options;
-pub use words::{
+pub use arguments::{
     AloneCommand, Command, CyclesOptions, FlowSet, ReadingCommand, RunOptions, RunOutput, SetForm,
     StateOutput, TraceOptions, TraceOutput, command_in,
 };
+pub use laws::law_options;

@@ -1,8 +1,8 @@
 -- The cause of each status.
 use Rattle.std.proofs.Common.{◌≡◌, ◌⊎◌, [], Option, Some, None, Ok, Err, refl, sym, ◌∙◌, ap, subst, inl, inr, arith}
 use Rattle.raw_io.specs.Sights.{SourceSight}
-use Rattle.raw_command_line.specs.declared.words.Command.{Command}
-use Rattle.raw_command_line.specs.declared.words.Command.TheVariants.{Alone, Reads}
+use Rattle.raw_command_line.specs.declared.arguments.Command.{Command}
+use Rattle.raw_command_line.specs.declared.arguments.Command.TheVariants.{Alone, Reads}
 use Rattle.raw_shell.specs.declared.failure.Failure.TheVariants.{Use, Refused, ReadFault, WriteFault, Memory, TooLong}
 use Rattle.raw_inputs.specs.declared.flaw.InputFlaw.TheVariants as flaw
 use Rattle.raw_shell.specs.Answers.{status_of, Said}

@@ -9,16 +9,16 @@ use Rattle.raw_debug.specs.Script.{script_text}
 use Rattle.raw_names.specs.Names.{names_text}
 use Rattle.raw_inputs.specs.declared.form.InputForm.{InputForm}
 use Rattle.raw_inputs.specs.declared.form.InputForm.TheVariants.{Text, Image, Plan, Flow, Script}
-use Rattle.raw_command_line.specs.declared.words.AloneCommand.{AloneCommand}
-use Rattle.raw_command_line.specs.declared.words.AloneCommand.TheVariants.{Fixed, Work}
-use Rattle.raw_command_line.specs.declared.words.RunOutput.{RunOutput}
-use Rattle.raw_command_line.specs.declared.words.RunOutput.TheVariants.{State, History}
-use Rattle.raw_command_line.specs.declared.words.StateOutput.TheVariants.{Report, Picture}
-use Rattle.raw_command_line.specs.declared.words.FlowSet.TheVariants.{Compiled, Scheduled, Endless}
-use Rattle.raw_command_line.specs.declared.words.ReadingCommand.{ReadingCommand}
-use Rattle.raw_command_line.specs.declared.words.ReadingCommand.TheVariants.{Run, Cycles, Path, Trace, Depths, Steady, Names, Lines, Asm, List as ListCommand, Plan as PlanCommand, Flow as FlowCommand, Check, Debug, Prove, ProveLive}
-use Rattle.raw_command_line.specs.declared.words.Command.{Command}
-use Rattle.raw_command_line.specs.declared.words.Command.TheVariants.{Alone, Reads}
+use Rattle.raw_command_line.specs.declared.arguments.AloneCommand.{AloneCommand}
+use Rattle.raw_command_line.specs.declared.arguments.AloneCommand.TheVariants.{Fixed, Work}
+use Rattle.raw_command_line.specs.declared.arguments.RunOutput.{RunOutput}
+use Rattle.raw_command_line.specs.declared.arguments.RunOutput.TheVariants.{State, History}
+use Rattle.raw_command_line.specs.declared.arguments.StateOutput.TheVariants.{Report, Picture}
+use Rattle.raw_command_line.specs.declared.arguments.FlowSet.TheVariants.{Compiled, Scheduled, Endless}
+use Rattle.raw_command_line.specs.declared.arguments.ReadingCommand.{ReadingCommand}
+use Rattle.raw_command_line.specs.declared.arguments.ReadingCommand.TheVariants.{Run, Cycles, Path, Trace, Depths, Steady, Names, Lines, Asm, List as ListCommand, Plan as PlanCommand, Flow as FlowCommand, Check, Debug, Prove, ProveLive}
+use Rattle.raw_command_line.specs.declared.arguments.Command.{Command}
+use Rattle.raw_command_line.specs.declared.arguments.Command.TheVariants.{Alone, Reads}
 use Rattle.raw_shell.specs.declared.ending.Ending.{Ending}
 use Rattle.raw_inputs.specs.declared.flaw.Refusal.{Refusal}
 use Rattle.raw_shell.specs.declared.failure.Failure.TheVariants.{Refused, ReadFault, WriteFault, Memory, TooLong}
@@ -36,7 +36,7 @@ use Rattle.raw_commands.specs.Ended.{Answered, Performed, Ended}
 use Rattle.raw_owed.specs.Obeyed.{PutsWhole, PutsPast}
 use Rattle.raw_shell.specs.Call.{IsEndingStatus}
 use Rattle.raw_commands.specs.Call.{Call}
-use Rattle.raw_commands.specs.Served.{Stands, Written, StandsAlone, WrittenAlone, Finished, WantsMemory, Complete, CompleteAlone, TooLongExactly, TooLongAlways, FaultExactly, StopsPast, PastExactly}
+use Rattle.raw_commands.specs.Served.{CallStands, Written, StandsAlone, WrittenAlone, Finished, WantsMemory, Complete, CompleteAlone, TooLongExactly, TooLongAlways, FaultExactly, StopsPast, PastExactly}
 use Rattle.raw_owed.specs.Owed.{Accepts}
 use Rattle.raw_commands.specs.Promises.{RunWritten, Headline, Promises}
 use Rattle.raw_commands.proofs.Statuses.{not_done}
@@ -80,7 +80,7 @@ module _ (law : (form : InputForm) (input : List ℕ) → IsOneInput form input)
   stands : (command : ReadingCommand) (Due : List ℕ → List ℕ → Ending → Type 0)
       → ((input output : List ℕ) (ending : Ending) → Owes (Reads command) input output ending → Due input output ending)
       → (input before : List ℕ) → call.seen.source.old.left ≡ Some input → call.seen.out.old.bytes ≡ Some before → (answer : Answer) → call.status ≡ status_of answer
-      → Performed (Reads command) call.seen.source call.seen.out answer → IsEndingStatus (status_of answer) → Stands Due input before call
+      → Performed (Reads command) call.seen.source call.seen.out answer → IsEndingStatus (status_of answer) → CallStands Due input before call
   stands command Due owes input before si sb (Ok ending) is (inl s) h = absurd s.cause
   stands command Due owes input before si sb (Ok ending) is (inr r) h =
       let p : PutsWhole (Reads command) r.input call.seen.out ending = r.obeyed in

@@ -9,8 +9,8 @@ use Rattle.raw_shell.specs.declared.failure.Failure.TheVariants.{Use, Refused, R
 use Rattle.raw_shell.specs.Seen.{SourceSeen, SinkSeen, Untouched}
 use Rattle.raw_shell.specs.Gathering.{with_gathered, gathering, HoldsNothing, Tells}
 use Rattle.raw_shell.proofs.Gathering.{keeps_all, front_behind, still_behind, rose_before}
-use Rattle.raw_command_line.specs.declared.words.Command.{Command}
-use Rattle.raw_command_line.specs.declared.words.Command.TheVariants.{Alone, Reads}
+use Rattle.raw_command_line.specs.declared.arguments.Command.{Command}
+use Rattle.raw_command_line.specs.declared.arguments.Command.TheVariants.{Alone, Reads}
 use Rattle.raw_inputs.specs.declared.flaw.InputFlaw.TheVariants as flaw
 use Rattle.raw_inputs.specs.Flaws.{Failure}
 use Rattle.raw_owed.specs.Answers.{Answer}

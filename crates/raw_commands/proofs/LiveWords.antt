@@ -2,7 +2,7 @@
 use Rattle.std.proofs.Common.{◌≡◌, ℕ, Bool, true, false, List, [], ◌∷◌, None, refl, ap, ◌∙◌, codes, bytes_eq, if◌then◌else◌}
 use Rattle.std.proofs.lemmas.Slice.Eq.{bytes_eq-Decides}
 use Rattle.raw_debug_live.specs.Words.{asks_live}
-use Rattle.raw_command_line.specs.Words.{command_of, takes_number, plain_option}
+use Rattle.raw_command_line.specs.Arguments.{command_of, takes_number, plain_option}
 use Rattle.raw_commands.specs.Call.{Call}
 use Rattle.raw_commands.specs.Promises.{Headline}
 

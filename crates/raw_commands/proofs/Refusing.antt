@@ -5,10 +5,10 @@ use Rattle.raw_debug.specs.Script.{past_end}
 use Rattle.raw_shell.specs.declared.ending.Ending.{Ending}
 use Rattle.raw_inputs.specs.declared.form.InputForm.{InputForm}
 use Rattle.raw_inputs.specs.declared.form.InputForm.TheVariants.{Text, Image, Plan, Flow, History, Script, Claim}
-use Rattle.raw_command_line.specs.declared.words.FlowSet.TheVariants.{Compiled, Scheduled, Endless}
-use Rattle.raw_command_line.specs.declared.words.ReadingCommand.{ReadingCommand}
-use Rattle.raw_command_line.specs.declared.words.ReadingCommand.TheVariants.{Run, Cycles, Path, Trace, Depths, Steady, Names, Lines, Asm, List as ListCommand, Plan as PlanCommand, Flow as FlowCommand, Check, Debug, Prove, ProveLive}
-use Rattle.raw_command_line.specs.declared.words.Command.TheVariants.{Reads}
+use Rattle.raw_command_line.specs.declared.arguments.FlowSet.TheVariants.{Compiled, Scheduled, Endless}
+use Rattle.raw_command_line.specs.declared.arguments.ReadingCommand.{ReadingCommand}
+use Rattle.raw_command_line.specs.declared.arguments.ReadingCommand.TheVariants.{Run, Cycles, Path, Trace, Depths, Steady, Names, Lines, Asm, List as ListCommand, Plan as PlanCommand, Flow as FlowCommand, Check, Debug, Prove, ProveLive}
+use Rattle.raw_command_line.specs.declared.arguments.Command.TheVariants.{Reads}
 use Rattle.raw_inputs.specs.declared.flaw.LineKind.TheVariants.{Set}
 use Rattle.raw_inputs.specs.declared.flaw.Refusal.{Refusal}
 use Rattle.raw_inputs.specs.declared.flaw.Refusal.TheVariants.{Line}

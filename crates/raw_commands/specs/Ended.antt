@@ -1,10 +1,10 @@
 -- The one relation between the words, the answer, and what is seen of the source, of out and of err.
 use Rattle.std.specs.Prelude.{◌≡◌, ◌⊎◌, ℕ, ◌≤◌, List, [], length, Option, Some, None, Ok, Err}
 use Rattle.raw_io.specs.Reading.{TakesFront}
-use Rattle.raw_command_line.specs.declared.words.AloneCommand.{AloneCommand}
-use Rattle.raw_command_line.specs.declared.words.ReadingCommand.{ReadingCommand}
-use Rattle.raw_command_line.specs.declared.words.Command.{Command}
-use Rattle.raw_command_line.specs.declared.words.Command.TheVariants.{Alone, Reads}
+use Rattle.raw_command_line.specs.declared.arguments.AloneCommand.{AloneCommand}
+use Rattle.raw_command_line.specs.declared.arguments.ReadingCommand.{ReadingCommand}
+use Rattle.raw_command_line.specs.declared.arguments.Command.{Command}
+use Rattle.raw_command_line.specs.declared.arguments.Command.TheVariants.{Alone, Reads}
 use Rattle.raw_shell.specs.declared.failure.Failure.TheVariants.{Use, ReadFault, Memory, TooLong}
 use Rattle.raw_shell.specs.Answers.{status_of, Said}
 use Rattle.raw_inputs.specs.Flaws.{Failure, flaw_line}

@@ -3,7 +3,7 @@ use Rattle.std.specs.Prelude.{◌≡◌, Bool, true, false, Option, Ok, Err}
 use Rattle.raw_shell.specs.declared.failure.Failure.TheVariants.{Refused, WriteFault}
 use Rattle.raw_shell.specs.Seen.{SourceSeen, SinkSeen, WriteFails, Says}
 use Rattle.raw_shell.specs.Gathering.{Tells}
-use Rattle.raw_command_line.specs.declared.words.Command.{Command}
+use Rattle.raw_command_line.specs.declared.arguments.Command.{Command}
 use Rattle.raw_inputs.specs.declared.flaw.InputFlaw.TheVariants as flaw
 use Rattle.raw_owed.specs.Answers.{Answer, err_line}
 use Rattle.raw_commands.specs.Ended.{Answered}

@@ -3,17 +3,17 @@ use Rattle.std.specs.Prelude.{ℕ, Option}
 use Rattle.raw_set_text.specs.Listing.{listing}
 use Rattle.raw_image.specs.Image.{image}
 use Rattle.raw_names.specs.Names.{names_text}
-use Rattle.raw_command_line.specs.declared.words.SetForm.{SetForm}
+use Rattle.raw_command_line.specs.declared.arguments.SetForm.{SetForm}
 use Rattle.raw_inputs.specs.declared.form.InputForm.TheVariants as form
-use Rattle.raw_shell.specs.declared.words.FixedText.{FixedText}
-use Rattle.raw_command_line.specs.declared.words.StateOutput.TheVariants.{Report, Picture}
-use Rattle.raw_command_line.specs.declared.words.CyclesOptions.{CyclesOptions}
-use Rattle.raw_command_line.specs.declared.words.TraceOptions.{TraceOptions}
-use Rattle.raw_command_line.specs.declared.words.RunOutput.{RunOutput}
-use Rattle.raw_command_line.specs.declared.words.RunOutput.TheVariants.{State, History}
-use Rattle.raw_command_line.specs.declared.words.FlowSet.TheVariants.{Compiled, Scheduled, Endless}
-use Rattle.raw_command_line.specs.declared.words.AloneCommand.TheVariants.{Fixed, Work}
-use Rattle.raw_command_line.specs.declared.words.ReadingCommand.TheVariants as reading
+use Rattle.raw_shell.specs.declared.arguments.FixedText.{FixedText}
+use Rattle.raw_command_line.specs.declared.arguments.StateOutput.TheVariants.{Report, Picture}
+use Rattle.raw_command_line.specs.declared.arguments.CyclesOptions.{CyclesOptions}
+use Rattle.raw_command_line.specs.declared.arguments.TraceOptions.{TraceOptions}
+use Rattle.raw_command_line.specs.declared.arguments.RunOutput.{RunOutput}
+use Rattle.raw_command_line.specs.declared.arguments.RunOutput.TheVariants.{State, History}
+use Rattle.raw_command_line.specs.declared.arguments.FlowSet.TheVariants.{Compiled, Scheduled, Endless}
+use Rattle.raw_command_line.specs.declared.arguments.AloneCommand.TheVariants.{Fixed, Work}
+use Rattle.raw_command_line.specs.declared.arguments.ReadingCommand.TheVariants as reading
 use Rattle.raw_owed.specs.Owed.{IsRunOutput, IsCyclesOutput, IsPathOutput, IsTraceOutput, IsDepthsOutput, IsSteadyOutput, IsSetOutput, IsLinesOutput, IsCheckOutput, IsDebugOutput, IsWorkOutput, IsTextOutput}
 use Rattle.raw_owed.specs.ClaimOutputs.{IsProveOutput}
 use Rattle.raw_owed.specs.LiveOutputs.{IsLiveOutput}

@@ -1,10 +1,10 @@
 -- What stands after a call of a command: that it was done, that it has to be done, and where it is refused.
 use Rattle.std.specs.Prelude.{◌≡◌, ◌⊎◌, ◌↔◌, ℕ, ◌<◌, ◌≤◌, List, [], ◌++◌, length, Some}
-use Rattle.raw_command_line.specs.declared.words.AloneCommand.{AloneCommand}
-use Rattle.raw_command_line.specs.declared.words.ReadingCommand.{ReadingCommand}
-use Rattle.raw_command_line.specs.declared.words.ReadingCommand.TheVariants as reading
-use Rattle.raw_command_line.specs.declared.words.Command.{Command}
-use Rattle.raw_command_line.specs.declared.words.Command.TheVariants.{Alone, Reads}
+use Rattle.raw_command_line.specs.declared.arguments.AloneCommand.{AloneCommand}
+use Rattle.raw_command_line.specs.declared.arguments.ReadingCommand.{ReadingCommand}
+use Rattle.raw_command_line.specs.declared.arguments.ReadingCommand.TheVariants as reading
+use Rattle.raw_command_line.specs.declared.arguments.Command.{Command}
+use Rattle.raw_command_line.specs.declared.arguments.Command.TheVariants.{Alone, Reads}
 use Rattle.raw_shell.specs.declared.ending.Ending.{Ending}
 use Rattle.raw_inputs.specs.declared.flaw.Refusal.{Refusal}
 use Rattle.raw_shell.specs.declared.failure.Failure.TheVariants.{Refused}
@@ -18,7 +18,7 @@ use Rattle.raw_commands.specs.Call.{Call}
 
 -- A command that reads was done: an output that is due for the input was appended, the source has no bytes left, and the
 -- status is that of how the command ended.
-pub record Stands (Due : List ℕ → List ℕ → Ending → Type 0) (input before : List ℕ) (call : Call) : Type 0 where
+pub record CallStands (Due : List ℕ → List ℕ → Ending → Type 0) (input before : List ℕ) (call : Call) : Type 0 where
   pub output : List ℕ
   pub ending : Ending
   pub due : Due input output ending
@@ -31,7 +31,7 @@ abbrev pub Written : ReadingCommand → (List ℕ → List ℕ → Ending → Ty
 Written command Due call =
     call.words ≡ Some (Reads command) → IsEndingStatus call.status
     → (input before : List ℕ) → call.seen.source.old.left ≡ Some input → call.seen.out.old.bytes ≡ Some before
-    → Stands Due input before call
+    → CallStands Due input before call
 
 -- A command that reads nothing was done: an output that is due was appended, the source was not asked, and the status is that
 -- of how the command ended.

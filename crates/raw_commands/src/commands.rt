@@ -1,8 +1,8 @@
 //! The commands, each over its input and `out`.
 ghost use Rattle.std.specs.Prelude.{◌≡◌, ◌≤◌, ℕ, List, [], length};
-ghost use Rattle.raw_owed.specs.Answers.{text_of, help_text, version_text};
+ghost use Rattle.raw_owed.specs.Answers.{fixed_text_of, help_text, version_text};
 ghost use Rattle.raw_inputs.specs.Inputs.{whole, Means};
-ghost use Rattle.raw_command_line.specs.Words.{IsWithinRange};
+ghost use Rattle.raw_command_line.specs.Arguments.{IsWithinRange};
 ghost use Rattle.raw_shell.specs.Seen.{sink_seen};
 ghost use Rattle.raw_owed.specs.Obeyed.{Obeyed};
 
@@ -99,7 +99,7 @@ fn version() -> &'static [u8]
 }
 
 fn words_of(text: FixedText) -> &'static [u8]
-    ensures { result.now ≡ text_of text }
+    ensures { result.now ≡ fixed_text_of text }
 {
     text.of(help(), version())
 }
@@ -176,7 +176,7 @@ pub fn obey_alone<R: Threads + Clock + Sync, K: Sink, G: Gate>(
 }
 
 /// A command that reads, on its input.
-pub fn obey<R: Threads + Clock + Sync, K: Sink, G: Gate>(
+pub fn run_command<R: Threads + Clock + Sync, K: Sink, G: Gate>(
     rt: &R,
     alloc: Global,
     command: ReadingCommand,

@@ -3,8 +3,8 @@ ghost use Rattle.std.specs.Prelude.{◌≤◌, length};
 ghost use Rattle.raw_text.specs.declared.limits.TheConstants.{MAX_TEXT};
 ghost use Rattle.raw_shell.specs.Seen.{sink_seen};
 ghost use Rattle.raw_owed.specs.Obeyed.{Obeyed};
-ghost use Rattle.raw_command_line.specs.declared.words.ReadingCommand.TheVariants.{Lines};
-ghost use Rattle.raw_command_line.specs.declared.words.Command.TheVariants.{Reads};
+ghost use Rattle.raw_command_line.specs.declared.arguments.ReadingCommand.TheVariants.{Lines};
+ghost use Rattle.raw_command_line.specs.declared.arguments.Command.TheVariants.{Reads};
 
 use raw_inputs::{Failure, text_in};
 use raw_io::Sink;

@@ -7,13 +7,13 @@ ghost use Rattle.raw_shell.specs.Gathered.{behind, told, IsFirst};
 ghost use Rattle.raw_shell.specs.Call.{call};
 ghost use Rattle.raw_debug_live.specs.Words.{asks_live};
 ghost use Rattle.raw_debug_live.specs.Promises as live;
-ghost use Rattle.raw_command_line.specs.declared.words.Command.{Command};
-ghost use Rattle.raw_command_line.specs.Words.{command_of};
+ghost use Rattle.raw_command_line.specs.declared.arguments.Command.{Command};
+ghost use Rattle.raw_command_line.specs.Arguments.{command_of};
 ghost use Rattle.raw_commands.specs.Ended.{Answered, Ended};
 ghost use Rattle.raw_commands.specs.Program.{has_put, IsHandedOn, SaysWriteFault};
 ghost use Rattle.raw_commands.specs.Promises.{Headline, Promises};
 
-use crate::top::perform;
+use crate::top::dispatch;
 use raw_command_line::command_in;
 use raw_debug_live::{asks_live, live_debug};
 use raw_inputs::{Failure, InputFlaw, law_one_input};
@@ -67,7 +67,7 @@ fn carry_on<R: Threads + Clock + Sync, S: Source, K: Sink, E: Sink, G: Gate>(
     ensures fault { result ≡ 8 → SaysWriteFault (call (command_of (map string_bytes words.now))
         S.sight source.old source.new (behind K.sight) out.old out.new (behind E.sight) err.old err.new result) }
 {
-    let answer = perform(rt, alloc, command_in(words), source, out, gate);
+    let answer = dispatch(rt, alloc, command_in(words), source, out, gate);
     let answer = hand_on(answer, out);
     conclude_gathered(err, answer)
 }

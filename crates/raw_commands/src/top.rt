@@ -3,14 +3,14 @@ ghost use Rattle.std.specs.Prelude.{◌≡◌, ◌≤◌, true, false, map, stri
 ghost use Rattle.raw_io.specs.Reading.{TakesFront};
 ghost use Rattle.raw_debug_live.specs.Words.{asks_live};
 ghost use Rattle.raw_debug_live.specs.Promises as live;
-ghost use Rattle.raw_command_line.specs.Words.{command_of, IsLawfulCommand};
+ghost use Rattle.raw_command_line.specs.Arguments.{command_of, IsLawfulCommand};
 ghost use Rattle.raw_shell.specs.Seen.{limit, seen, source_seen, sink_seen, ReadsWhole};
 ghost use Rattle.raw_shell.specs.Call.{call};
 ghost use Rattle.raw_commands.specs.Ended.{Answered, Performed, Ended, NotRead};
 ghost use Rattle.raw_commands.specs.Promises.{Headline, Promises};
-ghost use Rattle.raw_command_line.specs.declared.words.Command.TheVariants.{Reads};
+ghost use Rattle.raw_command_line.specs.declared.arguments.Command.TheVariants.{Reads};
 
-use crate::commands::{obey, obey_alone};
+use crate::commands::{obey_alone, run_command};
 use raw_command_line::{Command, ReadingCommand, command_in};
 use raw_debug_live::{asks_live, live_debug};
 use raw_inputs::{Failure, law_one_input};
@@ -76,11 +76,11 @@ fn carry_out<R: Threads + Clock + Sync, S: Source, K: Sink, E: Sink, G: Gate>(
     ensures { Ended (call (command_of (map string_bytes words.now))
         S.sight source.old source.new K.sight out.old out.new E.sight err.old err.new result) }
 {
-    let answer = perform(rt, alloc, command_in(words), source, out, gate);
+    let answer = dispatch(rt, alloc, command_in(words), source, out, gate);
     conclude(err, answer)
 }
 
-pub(crate) fn perform<R: Threads + Clock + Sync, S: Source, K: Sink, G: Gate>(
+pub(crate) fn dispatch<R: Threads + Clock + Sync, S: Source, K: Sink, G: Gate>(
     rt: &R,
     alloc: Global,
     command: Option<Command>,
@@ -96,11 +96,11 @@ pub(crate) fn perform<R: Threads + Clock + Sync, S: Source, K: Sink, G: Gate>(
 {
     match command {
         None => Err(Failure::Use),
-        Some(command) => lawful(rt, alloc, command, source, out, gate),
+        Some(command) => dispatch_command(rt, alloc, command, source, out, gate),
     }
 }
 
-fn lawful<R: Threads + Clock + Sync, S: Source, K: Sink, G: Gate>(
+fn dispatch_command<R: Threads + Clock + Sync, S: Source, K: Sink, G: Gate>(
     rt: &R,
     alloc: Global,
     command: Command,
@@ -134,7 +134,7 @@ fn with_input<R: Threads + Clock + Sync, S: Source, K: Sink, G: Gate>(
         result }
 {
     match input_of(alloc, source) {
-        Ok(input) => obey(rt, alloc, command, input, out, gate),
+        Ok(input) => run_command(rt, alloc, command, input, out, gate),
         Err(failure) => Err(failure),
     }
 }

@@ -14,15 +14,15 @@ use Rattle.raw_debug.specs.declared.walk.Walk.{Walk}
 use Rattle.raw_debug.specs.Commands.{LabelPlaces, Meaning, first_processor, led_to, led_by, meaning_of, readings_from, readings, bad_command}
 use Rattle.raw_debug.specs.Commands.Meaning.{Blank, Says}
 use Rattle.raw_debug.specs.Walking.{IsFresh, AreOn}
-use Rattle.raw_debug.specs.Script.{Spot, first_spot, leads_to, moved, moved_by, is_past, text_of, line_text, text_from, script_text, IsRunThrough}
-use Rattle.raw_debug.specs.Debugging.{Stands}
+use Rattle.raw_debug.specs.Script.{Spot, first_spot, leads_to, moved, moved_by, is_past, script_text_of, line_text, text_from, script_text, IsRunThrough}
+use Rattle.raw_debug.specs.Debugging.{PositionStands}
 use Rattle.raw_debug.proofs.Walks.{fresh_done}
 use Rattle.raw_debug.proofs.Readings.{AreLeft, here, left_is, left_after, found, none_more}
 
 -- what is left to write: what the next line writes, and then, where it does not go past the end, what the others write
 parts : (set : ProgramSet) (spot : Spot) (reading : Meaning) (others : List Meaning)
     → text_from set spot (reading ∷ others) ≡ line_text set spot reading ++ (if is_past set reading then [] else text_from set (moved_by set spot reading) others)
-parts set spot reading others = by_test (is_past set reading) (text_of set spot reading) (text_from set (moved_by set spot reading) others)
+parts set spot reading others = by_test (is_past set reading) (script_text_of set spot reading) (text_from set (moved_by set spot reading) others)
   where
     by_test : (b : Bool) (text rest : List ℕ) → (if b then [] else text ++ rest) ≡ (if b then [] else text) ++ (if b then [] else rest)
     by_test true text rest = refl
@@ -59,7 +59,7 @@ some_tile (suc a) (suc b) first second = omega arith
 
 -- a machine that starts stands at the first place
 pub fresh_stands : (of : ProgramSet) (walk : Walk) (copies : Copies) → IsFresh of walk → AreOn of copies.walks.items
-    → IsSet walk.machine.set → Stands (record { walk = walk; copies = copies; current = record { 0 = 0 } })
+    → IsSet walk.machine.set → PositionStands (record { walk = walk; copies = copies; current = record { 0 = 0 } })
 fresh_stands of walk copies fresh are_on valid =
     let topo = walk.machine.set.topo in
     let some = some_tile topo.cols topo.rows valid.topology.size.some_cols valid.topology.size.some_rows in

@@ -15,7 +15,7 @@ use Rattle.raw_debug.specs.Walking.{up_to, state_after, count_at, moment_of}
 use Rattle.raw_debug.specs.Stops.{stopped_after}
 use Rattle.raw_debug.specs.Answers.{answer}
 use Rattle.raw_debug.specs.Debugging.{IsLed}
-use Rattle.raw_debug.specs.Script.{Spot, leads_to, told, goes_past, text_of, line_text}
+use Rattle.raw_debug.specs.Script.{Spot, leads_to, told, goes_past, script_text_of, line_text}
 
 no_moment : (b : Bool) (x : ℕ) → cond b (Some x) None ≡ None → b ≡ false
 no_moment true x e = absurd (cc e)
@@ -58,7 +58,7 @@ said_text set own spot command s n p own_is p_is s_is leads =
     ∙ ap (λ g. answer g n (state_after g n) p.0 command) own_is
     ∙ ap (λ (q : ProcId). answer set n (state_after set n) q.0 command) p_is
     ∙ sym (ap (told set (led_to spot.current command) command) leads)
-    ∙ sym (ap (λ b. if b then [] else text_of set spot (Says command)) (goes_somewhere set spot command n leads))
+    ∙ sym (ap (λ b. if b then [] else script_text_of set spot (Says command)) (goes_somewhere set spot command n leads))
 
 -- the moment to which a command led; a moment of no other set
 pub is_led : (set own : ProgramSet) (spot : Spot) (command : Command) (n : ℕ) → own ≡ set → leads_to set spot command ≡ Some n → IsLed own n command

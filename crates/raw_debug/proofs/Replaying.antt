@@ -10,14 +10,14 @@ use Rattle.raw_debug.specs.declared.command.Reading.{Reading}
 use Rattle.raw_debug.specs.declared.command.Reading.TheVariants as reading
 use Rattle.raw_debug.specs.Commands.{LabelPlaces, Meaning, led_by, meaning_of, meant, readings_from, readings, is_outside, bad_command}
 use Rattle.raw_debug.specs.Commands.Meaning.{Blank, Says, Echoes, Outside}
-use Rattle.raw_debug.specs.Script.{Spot, first_spot, moved, moved_by, is_past, past_end, text_of, line_text, text_from, script_text}
+use Rattle.raw_debug.specs.Script.{Spot, first_spot, moved, moved_by, is_past, past_end, script_text_of, line_text, text_from, script_text}
 use Rattle.raw_debug.specs.Live.{line_meaning, answer_to, spot_behind, line_answer, line_spot, answers, spot_after}
 use Rattle.raw_debug.proofs.Leading.{past_leads_nowhere}
 use Rattle.raw_debug.proofs.Following.{moved_current}
 
 -- the answer to a line that is a command and does not go past the end is what it writes
 answer_is : (set : ProgramSet) (spot : Spot) (meaning : Meaning) → is_outside meaning ≡ false → is_past set meaning ≡ false
-    → answer_to set spot meaning ≡ text_of set spot meaning
+    → answer_to set spot meaning ≡ script_text_of set spot meaning
 answer_is set spot Outside inside going = absurd (cc inside)
 answer_is set spot Blank inside going = refl
 answer_is set spot (Echoes tokens) inside going = refl
@@ -61,8 +61,8 @@ replayed labels set spot (line ∷ lines) faultless good goes =
     ap₂ (λ text s. text ++ answers labels set s lines)
     (ap (answer_to set spot) same ∙ answer_is set spot meaning inside.0 going.0)
     (ap (spot_behind set spot) same ∙ spot_is set spot meaning going.0)
-    ∙ ap (λ text. text_of set spot meaning ++ text) (rest ∙ ap (λ c. text_from set behind (readings_from labels set c (map tokens_of lines))) (sym current))
-    ∙ sym (ap (λ b. if b then [] else text_of set spot meaning ++ text_from set behind others) going.0)
+    ∙ ap (λ text. script_text_of set spot meaning ++ text) (rest ∙ ap (λ c. text_from set behind (readings_from labels set c (map tokens_of lines))) (sym current))
+    ∙ sym (ap (λ b. if b then [] else script_text_of set spot meaning ++ text_from set behind others) going.0)
 
 pub replay : (labels : LabelPlaces) (set : ProgramSet) (lines : List (List ℕ)) → AllByRecursion (λ line. line_fault 1 line ≡ None) lines
     → bad_command labels set (map tokens_of lines) ≡ None → past_end labels set (map tokens_of lines) ≡ None

@@ -55,7 +55,7 @@ abbrev pub spot_of : Position → Spot
 spot_of position = record { moment = position.walk.moment; current = position.current }
 
 -- its machine has taken so many steps of the serial order, and its copies stand somewhere in that order
-pub record Stands (position : Position) : Type 0 where
+pub record PositionStands (position : Position) : Type 0 where
   pub under_way : IsUnderWay position.walk
   pub copies : AreOn position.walk.machine.set position.copies.walks.items
   pub there : position.current.0 < proc_count position.walk.machine.set.topo

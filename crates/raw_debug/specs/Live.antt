@@ -5,7 +5,7 @@ use Rattle.raw_text.specs.declared.lines.TextRefusal.{TextRefusal}
 use Rattle.raw_model.specs.Program.{ProgramSet}
 use Rattle.raw_debug.specs.Commands.{LabelPlaces, Meaning, meaning_of}
 use Rattle.raw_debug.specs.Commands.Meaning.{Outside}
-use Rattle.raw_debug.specs.Script.{Spot, moved_by, is_past, text_of}
+use Rattle.raw_debug.specs.Script.{Spot, moved_by, is_past, script_text_of}
 
 -- a line with a fault of its bytes or its length is outside the grammar
 abbrev pub unless_faulty : Option TextRefusal → Meaning → Meaning
@@ -20,7 +20,7 @@ line_meaning labels set p line = unless_faulty (line_fault 1 line) (meaning_of l
 -- goes past the end.
 abbrev pub answer_to : ProgramSet → Spot → Meaning → List ℕ
 answer_to set spot Outside = codes "bad-command\n"
-answer_to set spot meaning = if is_past set meaning then codes "past-end\n" else text_of set spot meaning
+answer_to set spot meaning = if is_past set meaning then codes "past-end\n" else script_text_of set spot meaning
 
 -- and where the debugger stands behind it
 abbrev pub spot_behind : ProgramSet → Spot → Meaning → Spot

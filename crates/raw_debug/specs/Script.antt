@@ -76,21 +76,21 @@ unfoldable pub past_end : LabelPlaces → ProgramSet → List (List (List ℕ)) 
 past_end labels set lines = position (is_past set) (readings labels set lines)
 
 -- what a line writes, from where the script stands
-abbrev pub text_of : ProgramSet → Spot → Meaning → List ℕ
-text_of set spot (Says command) = told set (led_to spot.current command) command (leads_to set spot command)
-text_of set spot (Echoes tokens) = echo_line tokens
-text_of set spot _ = []
+abbrev pub script_text_of : ProgramSet → Spot → Meaning → List ℕ
+script_text_of set spot (Says command) = told set (led_to spot.current command) command (leads_to set spot command)
+script_text_of set spot (Echoes tokens) = echo_line tokens
+script_text_of set spot _ = []
 
 -- the same, but nothing where it goes past the end
 abbrev pub line_text : ProgramSet → Spot → Meaning → List ℕ
-line_text set spot reading = if is_past set reading then [] else text_of set spot reading
+line_text set spot reading = if is_past set reading then [] else script_text_of set spot reading
 
 -- what these lines write, from where the script stands: all of them, or those before the first that goes past the end
 abbrev pub text_from : ProgramSet → Spot → List Meaning → List ℕ
 text_from set spot [] = []
 text_from set spot (reading ∷ readings) =
     if is_past set reading then []
-    else text_of set spot reading ++ text_from set (moved_by set spot reading) readings
+    else script_text_of set spot reading ++ text_from set (moved_by set spot reading) readings
 
 -- the output of a script
 unfoldable pub script_text : LabelPlaces → ProgramSet → List (List (List ℕ)) → List ℕ

@@ -27,13 +27,13 @@ pub struct Debugger<'s> {
 
 impl<'s> Model for Debugger<'s> {
     ghost use Rattle.raw_debug.specs.Live.{Session};
-    ghost use Rattle.raw_debug.specs.Debugging.{Stands, spot_of};
+    ghost use Rattle.raw_debug.specs.Debugging.{PositionStands, spot_of};
 
     ghost Value = { Session };
 
     ghost view = { λ d. record { set = d.position.walk.machine.set; spot = spot_of d.position } };
 
-    ghost invariant = { λ d. Stands d.position };
+    ghost invariant = { λ d. PositionStands d.position };
 }
 
 impl<'s> Debugger<'s> {

@@ -12,7 +12,7 @@ ghost use Rattle.raw_debug.specs.Walking.{count_at, moment_of, led};
 ghost use Rattle.raw_debug.specs.Stops.{stop_after, last_up_to, stopped_after};
 ghost use Rattle.raw_debug.specs.Script.{Spot, first_spot, leads_to, moved_by, goes_past, is_past, past_end, line_text, script_text, IsCause, IsUntouched, IsRunThrough};
 ghost use Rattle.raw_debug.specs.Live.{answer_to, spot_behind};
-ghost use Rattle.raw_debug.specs.Debugging.{Stands, IsPossibleAim, IsPossible, IsPossibleReading, spot_of};
+ghost use Rattle.raw_debug.specs.Debugging.{PositionStands, IsPossibleAim, IsPossible, IsPossibleReading, spot_of};
 
 use crate::answers::{put_answer, put_echo};
 use crate::command::{Aim, Command, Reading};
@@ -76,7 +76,7 @@ pub(crate) struct Position<'s> {
 impl Position<'_> {
     // How many steps the current processor has taken.
     fn count(&self) -> u64
-        requires { Stands self.now }
+        requires { PositionStands self.now }
         ensures value { result ≡ count_at self.now.walk.machine.set self.now.current.0 self.now.walk.moment }
         ensures few { result ≤ MAX_STEPS }
     {
@@ -87,12 +87,12 @@ impl Position<'_> {
     // Goes to the moment right after so many steps of the current processor, and says whether it takes so many; where it does
     // not, it stays.
     fn go_to(&mut self, steps: u64) -> bool
-        requires { Stands self.old }
+        requires { PositionStands self.old }
         ensures set { self.new.walk.machine.set ≡ self.old.walk.machine.set }
         ensures current { self.new.current ≡ self.old.current }
         ensures led { moment_of self.old.walk.machine.set self.old.current.0 steps ≡ led result self.new.walk.moment }
         ensures stays { result ≡ false → self.new.walk.moment ≡ self.old.walk.moment }
-        ensures stands { Stands self.new }
+        ensures stands { PositionStands self.new }
     {
         // The set is asked for so that it is known to keep its rules.
         let _set = self.walk.machine.set();
@@ -111,13 +111,13 @@ impl Position<'_> {
     // Goes on until right after the next step of the current processor that does what is aimed at, and says whether there
     // is one; where there is none, it stays.
     fn go_until(&mut self, aim: Aim) -> bool
-        requires stands { Stands self.old }
+        requires stands { PositionStands self.old }
         requires possible { IsPossibleAim self.old.walk.machine.set self.old.current.0 aim }
         ensures set { self.new.walk.machine.set ≡ self.old.walk.machine.set }
         ensures current { self.new.current ≡ self.old.current }
         ensures led { stop_after self.old.walk.machine.set self.old.walk.moment self.old.current.0 aim ≡ led result self.new.walk.moment }
         ensures stays { result ≡ false → self.new.walk.moment ≡ self.old.walk.moment }
-        ensures stands { Stands self.new }
+        ensures stands { PositionStands self.new }
     {
         let _set = self.walk.machine.set();
         let moment = self.walk.moment;
@@ -131,13 +131,13 @@ impl Position<'_> {
     // Goes back to right after the latest step of the current processor that did what is aimed at, and says whether there is
     // one; where there is none, it stays.
     fn go_to_last(&mut self, aim: Aim) -> bool
-        requires stands { Stands self.old }
+        requires stands { PositionStands self.old }
         requires possible { IsPossibleAim self.old.walk.machine.set self.old.current.0 aim }
         ensures set { self.new.walk.machine.set ≡ self.old.walk.machine.set }
         ensures current { self.new.current ≡ self.old.current }
         ensures led { last_up_to self.old.walk.machine.set self.old.walk.moment self.old.current.0 aim ≡ led result self.new.walk.moment }
         ensures stays { result ≡ false → self.new.walk.moment ≡ self.old.walk.moment }
-        ensures stands { Stands self.new }
+        ensures stands { PositionStands self.new }
     {
         let _set = self.walk.machine.set();
         let moment = self.walk.moment;
@@ -155,11 +155,11 @@ impl Position<'_> {
 
     // Goes to the end of the serial order.
     fn go_to_rest(&mut self)
-        requires { Stands self.old }
+        requires { PositionStands self.old }
         ensures set { self.new.walk.machine.set ≡ self.old.walk.machine.set }
         ensures current { self.new.current ≡ self.old.current }
         ensures moment { self.new.walk.moment ≡ length (serial self.old.walk.machine.set) }
-        ensures stands { Stands self.new }
+        ensures stands { PositionStands self.new }
     {
         self.copies.go_to_rest(&mut self.walk);
     }
@@ -167,12 +167,12 @@ impl Position<'_> {
     // Goes on until right after the last step of the current processor, and says whether it takes one more; where it takes
     // none, it stays.
     fn finish(&mut self) -> bool
-        requires { Stands self.old }
+        requires { PositionStands self.old }
         ensures set { self.new.walk.machine.set ≡ self.old.walk.machine.set }
         ensures current { self.new.current ≡ self.old.current }
         ensures led { stopped_after self.old.walk.machine.set self.old.walk.moment self.old.current.0 ≡ led result self.new.walk.moment }
         ensures stays { result ≡ false → self.new.walk.moment ≡ self.old.walk.moment }
-        ensures stands { Stands self.new }
+        ensures stands { PositionStands self.new }
     {
         let _set = self.walk.machine.set();
         let moment = self.walk.moment;
@@ -188,25 +188,25 @@ impl Position<'_> {
 
     // Goes back to a moment.
     fn return_to(&mut self, moment: u64)
-        requires stands { Stands self.old }
+        requires stands { PositionStands self.old }
         requires there { moment ≤ length (serial self.old.walk.machine.set) }
         ensures set { self.new.walk.machine.set ≡ self.old.walk.machine.set }
         ensures current { self.new.current ≡ self.old.current }
         ensures moment { self.new.walk.moment ≡ moment }
-        ensures stands { Stands self.new }
+        ensures stands { PositionStands self.new }
     {
         self.copies.return_to(&mut self.walk, moment);
     }
 
     // Goes where a command leads, and says whether there is such a moment; where there is none, it stays.
     fn go(&mut self, command: Command) -> bool
-        requires stands { Stands self.old }
+        requires stands { PositionStands self.old }
         requires possible { IsPossible self.old.walk.machine.set self.old.current.0 command }
         ensures set { self.new.walk.machine.set ≡ self.old.walk.machine.set }
         ensures current { self.new.current ≡ led_to self.old.current command }
         ensures led { leads_to self.old.walk.machine.set (spot_of self.old) command ≡ led result self.new.walk.moment }
         ensures stays { result ≡ false → self.new.walk.moment ≡ self.old.walk.moment }
-        ensures stands { Stands self.new }
+        ensures stands { PositionStands self.new }
     {
         self.current = command.led_to(self.current);
         match command {
@@ -242,12 +242,12 @@ impl Position<'_> {
 
     // Does what a command says, and says whether it is none that goes past the end.
     fn follow_command<K: Sink>(&mut self, command: Command, out: &mut K) -> Result<bool, Failed>
-        requires stands { Stands self.old }
+        requires stands { PositionStands self.old }
         requires possible { IsPossible self.old.walk.machine.set self.old.current.0 command }
         ensures set { self.new.walk.machine.set ≡ self.old.walk.machine.set }
         ensures spot { spot_of self.new ≡ moved_by self.old.walk.machine.set (spot_of self.old) (Says command) }
         ensures answer { IfOk result (λ done. done ≡ not (goes_past self.old.walk.machine.set command)) }
-        ensures stands { Stands self.new }
+        ensures stands { PositionStands self.new }
         ensures writes { Writes (K.sight out.old) (K.sight out.new)
             (line_text self.old.walk.machine.set (spot_of self.old) (Says command)) result }
     {
@@ -267,12 +267,12 @@ impl Position<'_> {
         line: &L,
         out: &mut K,
     ) -> Result<bool, Failed>
-        requires stands { Stands self.old }
+        requires stands { PositionStands self.old }
         requires possible { IsPossibleReading self.old.walk.machine.set self.old.current.0 reading }
         ensures set { self.new.walk.machine.set ≡ self.old.walk.machine.set }
         ensures spot { spot_of self.new ≡ moved_by self.old.walk.machine.set (spot_of self.old) (meant reading (L.tokens line.now)) }
         ensures answer { IfOk result (λ done. done ≡ not (is_past self.old.walk.machine.set (meant reading (L.tokens line.now)))) }
-        ensures stands { Stands self.new }
+        ensures stands { PositionStands self.new }
         ensures writes { Writes (K.sight out.old) (K.sight out.new)
             (line_text self.old.walk.machine.set (spot_of self.old) (meant reading (L.tokens line.now))) result }
     {
@@ -291,12 +291,12 @@ impl Position<'_> {
         line: &L,
         out: &mut K,
     ) -> Result<(), Failed>
-        requires stands { Stands self.old }
+        requires stands { PositionStands self.old }
         requires possible { IsPossibleReading self.old.walk.machine.set self.old.current.0 reading }
         ensures set { self.new.walk.machine.set ≡ self.old.walk.machine.set }
         ensures spot { OnOk result (spot_of self.new
             ≡ spot_behind self.old.walk.machine.set (spot_of self.old) (meant reading (L.tokens line.now))) }
-        ensures stands { Stands self.new }
+        ensures stands { PositionStands self.new }
         ensures writes { Writes (K.sight out.old) (K.sight out.new)
             (answer_to self.old.walk.machine.set (spot_of self.old) (meant reading (L.tokens line.now))) result }
     {
@@ -335,7 +335,7 @@ fn follow<K: Sink>(
     from: usize,
     out: &mut K,
 ) -> Result<(), DebugRefusal>
-    requires stands { Stands debugger.old }
+    requires stands { PositionStands debugger.old }
     requires first { spot_of debugger.old ≡ first_spot }
     requires from { from ≤ length (text_lines text.now) }
     requires good { bad_command (places_in labels.now) debugger.old.walk.machine.set (drop from (text_lines text.now)) ≡ None }

@@ -7,7 +7,7 @@ use Rattle.raw_model.specs.Start.{MachineState}
 use Rattle.raw_fabric_rule.specs.Views.{About, View}
 use Rattle.raw_fabric_rule.specs.ByEnds.{wires, producer, producer_end, consumer, consumer_end, wire}
 use Rattle.raw_fabric_rule.specs.Word.{field, status, data_word, flight}
-use Rattle.raw_fabric_rule.specs.Rule.{took, gave, Stands, Rule}
+use Rattle.raw_fabric_rule.specs.Rule.{took, gave, WordsStand, Rule}
 use Rattle.raw_fabric_rule.specs.Closing.{on_wire, wire_of, IsClosed}
 use Rattle.raw_fabric_rule.proofs.Nets.{is_net}
 use Rattle.raw_fabric_rule.proofs.Words.{field-pack}
@@ -24,7 +24,7 @@ between t s a b = omega arith
 twice_mod : (t : ℕ) → t % 8 ≡ t % 8 % 8
 twice_mod t = omega arith
 
-module _ (about : About) (words : List ℕ) (views : List View) (s : MachineState) (r : Stands about words views s) where
+module _ (about : About) (words : List ℕ) (views : List View) (s : MachineState) (r : WordsStand about words views s) where
   taken_of : (w : ℕ) → w < wires about.set → field (consumer_end about.set w) (status words (consumer about.set w)) ≡ took about.set r.counts w % 8
   unfolding took
   taken_of w lt =
@@ -54,7 +54,7 @@ module _ (about : About) (words : List ℕ) (views : List View) (s : MachineStat
         fl.carries ∙ flight_mod d (took about.set r.counts w) (took about.set r.counts w % 8) (gave about.set r.counts w - took about.set r.counts w) (twice_mod (took about.set r.counts w)) ∙ (λ i. flight d (sym t i) (sym n i)),
       )
 
-stands_closed : (about : About) (words : List ℕ) (views : List View) (s : MachineState) (r : Stands about words views s) (id : ℕ) (v : View) → get_elem? views id ≡ some v → IsClosed about words v s
+stands_closed : (about : About) (words : List ℕ) (views : List View) (s : MachineState) (r : WordsStand about words views s) (id : ℕ) (v : View) → get_elem? views id ≡ some v → IsClosed about words v s
 stands_closed about words views s r id v at = record {
   history = r.history;
   lawful = r.lawful;

@@ -12,7 +12,7 @@ use Rattle.raw_model.specs.Start.{MachineState}
 use Rattle.raw_fabric_rule.specs.Views.{About, Held, Hold, View}
 use Rattle.raw_fabric_rule.specs.ByEnds.{procs, wires, producer, producer_end, consumer, consumer_end, wire_at}
 use Rattle.raw_fabric_rule.specs.Word.{data_word, status}
-use Rattle.raw_fabric_rule.specs.Rule.{took, gave, IsFetched, IsStaged, IsHold, Flows, Stands, Rule}
+use Rattle.raw_fabric_rule.specs.Rule.{took, gave, IsFetched, IsStaged, IsHold, Flows, WordsStand, Rule}
 use Rattle.raw_fabric_rule.specs.Plays.{HasHold, held, place_from, fetch, fetch_at, fetched, Fetched, stage, stage_at, staged, Staged}
 use Rattle.raw_fabric_rule.specs.Conditions.{IsSeenSent, MayFetch, MayStage}
 use Rattle.raw_fabric_rule.proofs.Lists.{cond_same, cond_other, flight_same}
@@ -20,7 +20,7 @@ use Rattle.raw_fabric_rule.proofs.Nets.{IsNet, is_net}
 use Rattle.raw_fabric_rule.proofs.Words.{place_from-mod, place_from-above, word_wire, word_place}
 use Rattle.raw_fabric_rule.proofs.Views.{worker_of, unmoved}
 
-module _ (about : About) (words : List ℕ) (views : List View) (s : MachineState) (r : Stands about words views s) where
+module _ (about : About) (words : List ℕ) (views : List View) (s : MachineState) (r : WordsStand about words views s) where
   abbrev n : ProgramSet
   n = about.set
 
@@ -178,7 +178,7 @@ fetches about slots id me w k i is may st g long at _ =
       tt,
       (
         s,
-        subst (λ (ws : List ℕ). Stands about ws (set st.views id (fetched i x me.0)) s) (sym same)
+        subst (λ (ws : List ℕ). WordsStand about ws (set st.views id (fetched i x me.0)) s) (sym same)
             (unmoved about st.words st.words st.views s r id me.0 (fetched i x me.0) (fetch_at i x) at (λ p u _ h. h)
             (λ p u _ has h. subst (IsHold about st.words r.counts r.history s p) (form p u) (fetches_one about st.words st.views s r me.0 w k lt small may.seen p u has h)) refl refl (λ p l. refl) r.small r.flows),
       ),
@@ -214,6 +214,6 @@ stages about slots id me w k i x is may st g long at _ =
       staged i x me.0,
       keeps,
       tt,
-      (s, subst (λ (z : ℕ). Stands about (set st.words z x) (set st.views id (staged i x me.0)) s) (sym is) stays),
+      (s, subst (λ (z : ℕ). WordsStand about (set st.words z x) (set st.views id (staged i x me.0)) s) (sym is) stays),
       refl,
     )

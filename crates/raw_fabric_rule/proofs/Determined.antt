@@ -6,7 +6,7 @@ use Rattle.raw_model.specs.Start.{MachineState}
 use Rattle.raw_fabric_rule.specs.Views.{About, Hold, View}
 use Rattle.raw_fabric_rule.specs.ByEnds.{procs, wires, producer, producer_end, consumer, consumer_end, nobody, local, wire}
 use Rattle.raw_fabric_rule.specs.Word.{data_word, flight}
-use Rattle.raw_fabric_rule.specs.Rule.{took, gave, IsHold, Stands}
+use Rattle.raw_fabric_rule.specs.Rule.{took, gave, IsHold, WordsStand}
 use Rattle.raw_fabric_rule.proofs.Nets.{is_net}
 
 elem_at : {A : Type 0} (l : List A) (i : ℕ) → i < length l → (a : A) × (get_elem? l i ≡ some a)
@@ -14,7 +14,7 @@ elem_at [] i h = absurd (omega arith)
 elem_at (x ∷ xs) zero h = (x, refl)
 elem_at (x ∷ xs) (suc i) h = elem_at xs i (omega arith)
 
-module _ (about : About) (words : List ℕ) (views : List View) (s t : MachineState) (r : Stands about words views s) (q : Stands about words views t) where
+module _ (about : About) (words : List ℕ) (views : List View) (s t : MachineState) (r : WordsStand about words views s) (q : WordsStand about words views t) where
   -- some seat holds p
   both_hold : (p : ℕ) → p < procs about.set → (u : Hold) × IsHold about words r.counts r.history s p u × IsHold about words q.counts q.history t p u
   both_hold p lt =

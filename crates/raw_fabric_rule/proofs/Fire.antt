@@ -18,7 +18,7 @@ use Rattle.raw_model.specs.Machine.{is_stopped, takes}
 use Rattle.raw_model.specs.Rest.{enabled, step}
 use Rattle.raw_fabric_rule.specs.ByEnds.{procs, wires, producer, producer_end, consumer, consumer_end, wire_at, needs, taken, put_on, fills, sent_to_wire, next_local, touched_by, local, wire}
 use Rattle.raw_fabric_rule.specs.Word.{pack, status, data_word, flight}
-use Rattle.raw_fabric_rule.specs.Rule.{took, gave, touches_by_step, IsFetched, IsHold, IsPart, Flows, Stands, HasStood, Rule}
+use Rattle.raw_fabric_rule.specs.Rule.{took, gave, touches_by_step, IsFetched, IsHold, IsPart, Flows, WordsStand, HasStood, Rule}
 use Rattle.raw_fabric_rule.specs.Plays.{held, held_value, values_of, counts_after, bumped, fired_unit, fire, fire_part, fired, Fired, HasHold}
 use Rattle.raw_fabric_rule.specs.Conditions.{wanted, blank, MayFire}
 use Rattle.raw_fabric_rule.specs.Commit.{IsStepOf}
@@ -39,7 +39,7 @@ only_one : {A : Type 0} (x : A) (i : ℕ) (z : A) → get_elem? (x ∷ []) i ≡
 only_one x zero z e = some-injective x z e
 only_one x (suc i) z e = absurd (some-ne-none z (sym e))
 
-module _ (about : About) (words : List ℕ) (views : List View) (s : MachineState) (r : Stands about words views s) (id : ℕ) (v : View) (at : get_elem? views id ≡ some v) (p word : ℕ) (m : MayFire about v p word) where
+module _ (about : About) (words : List ℕ) (views : List View) (s : MachineState) (r : WordsStand about words views s) (id : ℕ) (v : View) (at : get_elem? views id ≡ some v) (p word : ℕ) (m : MayFire about v p word) where
   abbrev n : ProgramSet
   n = about.set
 
@@ -355,7 +355,7 @@ module _ (about : About) (words : List ℕ) (views : List View) (s : MachineStat
       (λ is. let pl : p < procs n = whole.within in ap (λ (z : ℕ). get_or words' (16 * z) 0) is ∙ get_or-set_same words (16 * p) word 0 (omega arith) ∙ m.word_is ∙ ap pack (sym (cond_same q p (counts_after n p u) (r.counts q) is)))
       (λ not. get_or-set_other words (16 * p) (16 * q) word 0 (λ e. not (same_word q p e)) ∙ r.packs q lt ∙ ap pack (sym (cond_other q p (counts_after n p u) (r.counts q) not)))
 
-  pub stands_after : (w : View) → w.parts ≡ map (fire_part p) v.parts → Stands about words' (set views id w) s'
+  pub stands_after : (w : View) → w.parts ≡ map (fire_part p) v.parts → WordsStand about words' (set views id w) s'
   stands_after w parts_is = record {
     counts = after;
     owner = r.owner;
@@ -397,7 +397,7 @@ words_from : (fs : List Held) → ((i : ℕ) (f : Held) → get_elem? fs i ≡ s
 words_from [] each = All-nil (λ value. value < 2 ^ 32)
 words_from (f ∷ fs) each = All-cons (λ value. value < 2 ^ 32) f.value (map held_value fs) (each 0 f refl) (words_from fs (λ i g e. each (suc i) g e))
 
-fetched_words : (about : About) (words : List ℕ) (views : List View) (s : MachineState) → Stands about words views s → (id : ℕ) (v : View) → get_elem? views id ≡ some v
+fetched_words : (about : About) (words : List ℕ) (views : List View) (s : MachineState) → WordsStand about words views s → (id : ℕ) (v : View) → get_elem? views id ≡ some v
     → (p : ℕ) (u : Hold) → HasHold v p u → All (λ value. value < 2 ^ 32) (values_of u)
 unfolding data_word
 fetched_words about words views s r id v at p u has =

@@ -11,7 +11,7 @@ use Rattle.raw_model.specs.Start.{MachineState}
 use Rattle.raw_fabric_rule.specs.Views.{About, Hold, View}
 use Rattle.raw_fabric_rule.specs.ByEnds.{procs, wires, producer, producer_end, consumer, consumer_end, wire_at, wire}
 use Rattle.raw_fabric_rule.specs.Word.{field, status, data_word}
-use Rattle.raw_fabric_rule.specs.Rule.{took, gave, IsHold, Stands, Rule}
+use Rattle.raw_fabric_rule.specs.Rule.{took, gave, IsHold, WordsStand, Rule}
 use Rattle.raw_fabric_rule.specs.Plays.{HasHold, Rises, BothEnds, SeesWord, StoodThen, LookTells, other_side, newest, seen_from, see, looked, Looked}
 use Rattle.raw_fabric_rule.proofs.Lists.{cond_same, cond_other, length-flight}
 use Rattle.raw_fabric_rule.proofs.Nets.{IsNet, is_net}
@@ -36,7 +36,7 @@ input_side e a b h = ap (λ (v : Bool). cond v a b) (lt-ltb e 10 h)
 pub output_side : {A : Type 0} (e : ℕ) (a b : A) → 10 ≤ e → cond (ltb e 10) a b ≡ b
 output_side e a b h = ap (λ (v : Bool). cond v a b) (le-ltb e 10 h)
 
-module _ (about : About) (words : List ℕ) (views : List View) (s : MachineState) (r : Stands about words views s) where
+module _ (about : About) (words : List ℕ) (views : List View) (s : MachineState) (r : WordsStand about words views s) where
   abbrev n : ProgramSet
   n = about.set
 
@@ -212,7 +212,7 @@ looks {S = S} about slots id me q st g long at small =
       tt,
       (
         s,
-        subst (λ (ws : List ℕ). Stands about ws (set st.views id (looked q x me.0)) s) (sym same)
+        subst (λ (ws : List ℕ). WordsStand about ws (set st.views id (looked q x me.0)) s) (sym same)
             (unmoved about st.words st.words st.views s r id me.0 (looked q x me.0) (see q x) at (λ p u _ h. h) (λ p u _ _ h. sees about st.words st.views s r q p u h) refl refl (λ p lt. refl) r.small r.flows),
       ),
       (λ o e. subst (λ (z : ℕ). (◌≡◌ {A = Me S View} (looked q x me.0, me.1) (looked z x me.0, me.1)) × ((p : ℕ) (u : Hold) (h : HasHold me.0 p u) → LookTells h.part.about me.0 p z x u (see z x h.part.about p u))) (same_word q o e)

@@ -9,7 +9,7 @@ use Rattle.raw_model.specs.Start.{MachineState}
 use Rattle.raw_fabric_rule.specs.Views.{About, Hold, Part, View}
 use Rattle.raw_fabric_rule.specs.ByEnds.{procs, wires, producer, producer_end, consumer, consumer_end, wire_at, wire}
 use Rattle.raw_fabric_rule.specs.Word.{data_word, flight}
-use Rattle.raw_fabric_rule.specs.Rule.{took, gave, IsHold, IsPart, Flows, Stands, Rule}
+use Rattle.raw_fabric_rule.specs.Rule.{took, gave, IsHold, IsPart, Flows, WordsStand, Rule}
 use Rattle.raw_fabric_rule.specs.Opening.{held_at, sent_before, seen_before, ends_from, first_hold, first_holds, share, first_part, parts_from, first_view, IsLaid}
 use Rattle.raw_fabric_rule.proofs.Lists.{length-flight, get_or-flight}
 use Rattle.raw_fabric_rule.proofs.Nets.{IsNet, is_net}
@@ -140,7 +140,7 @@ module _ (about : About) (words : List ℕ) (l : IsLaid about words) where
         subst (IsHold about words counts [] s (k + i * about.workers)) (sym a.1) (hold (k + i * about.workers) (share_in (procs n) about.workers k i l.some_worker lt a.0));
   }
 
-  pub stands_first : Stands about words (first_view about ∷ []) about.opened
+  pub stands_first : WordsStand about words (first_view about ∷ []) about.opened
   unfolding first_view procs wires
   stands_first = record {
     counts = counts;

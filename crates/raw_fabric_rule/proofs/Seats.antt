@@ -9,7 +9,7 @@ use Rattle.atomic_table.proofs.Lists.{at_set, set_else, set_here, at_longer, at_
 use Rattle.raw_model.specs.Start.{MachineState}
 use Rattle.raw_fabric_rule.specs.Views.{About, Part, View}
 use Rattle.raw_fabric_rule.specs.Views.{spent_view}
-use Rattle.raw_fabric_rule.specs.Rule.{Holder, IsPart, Stands, Rule}
+use Rattle.raw_fabric_rule.specs.Rule.{Holder, IsPart, WordsStand, Rule}
 use Rattle.raw_fabric_rule.specs.Plays.{rest_of, first_of, both_of}
 use Rattle.raw_fabric_rule.proofs.Views.{at_within}
 use Rattle.raw_fabric_rule.proofs.Lists.{cond_same, cond_other}
@@ -38,7 +38,7 @@ at_after : {A : Type 0} (l m : List A) (i : ℕ) (a : A) → get_elem? m i ≡ s
 at_after [] m i a e = ap (get_elem? m) (let z : 0 + i ≡ i = omega arith in z) ∙ e
 at_after (x ∷ xs) m i a e = ap (get_elem? (x ∷ (xs ++ m))) (let z : suc (length xs) + i ≡ suc (length xs + i) = omega arith in z) ∙ at_after xs m i a e
 
-module _ (about : About) (words : List ℕ) (views : List View) (s : MachineState) (r : Stands about words views s) where
+module _ (about : About) (words : List ℕ) (views : List View) (s : MachineState) (r : WordsStand about words views s) where
   reowned : (owner : ℕ → ℕ) (j k : ℕ) (y : Part) → owner y.worker ≡ k → IsPart about words r.counts r.history s r.owner j y → IsPart about words r.counts r.history s owner k y
   reowned owner j k y e q = record { about_is = q.about_is; worker_in = q.worker_in; owned = e; log_is = q.log_is; holds_all = q.holds_all; units_are = q.units_are }
 
@@ -46,7 +46,7 @@ module _ (about : About) (words : List ℕ) (views : List View) (s : MachineStat
       → ((j : ℕ) (v : View) → get_elem? views' j ≡ some v → (i : ℕ) (y : Part) → get_elem? v.parts i ≡ some y → IsPart about words r.counts r.history s owner j y)
       → ((j : ℕ) (v : View) → get_elem? views' j ≡ some v → (i k : ℕ) (y z : Part) → get_elem? v.parts i ≡ some y → get_elem? v.parts k ≡ some z → y.worker ≡ z.worker → i ≡ k)
       → ((k : ℕ) → k < about.workers → Holder views' k)
-      → Stands about words views' s
+      → WordsStand about words views' s
   anew owner views' parts distinct held = record {
     counts = r.counts;
     owner = owner;
@@ -109,7 +109,7 @@ module _ (about : About) (words : List ℕ) (views : List View) (s : MachineStat
         (λ same. of_split h.index h.part k (ap (λ (q : View). get_elem? q.parts h.index) (some-injective v h.view (sym at ∙ ap (get_elem? views) (sym same) ∙ h.at)) ∙ h.part_at) h.worker_is)
         (λ not. record { seat = h.seat; view = h.view; at = at_longer (set views id (rest_of v)) (first_of v ∷ []) h.seat h.view (set_else views id h.seat (rest_of v) not ∙ h.at); index = h.index; part = h.part; part_at = h.part_at; worker_is = h.worker_is })
 
-    pub split_stands : Stands about words (set views id (rest_of v) ++ first_of v ∷ []) s
+    pub split_stands : WordsStand about words (set views id (rest_of v) ++ first_of v ∷ []) s
     split_stands = anew split_owner (set views id (rest_of v) ++ first_of v ∷ [])
         (λ j x e i z here. ⊎_elim
         (λ old. ⊎_elim
@@ -169,7 +169,7 @@ module _ (about : About) (words : List ℕ) (views : List View) (s : MachineStat
         (λ same. record { seat = id; view = both_of v w; at = both_there; index = length v.parts + h.index; part = h.part; part_at = second_in h.index h.part (ap (λ (q : View). get_elem? q.parts h.index) (some-injective w h.view (sym there ∙ ap (get_elem? views) (sym same) ∙ h.at)) ∙ h.part_at); worker_is = h.worker_is })
         (λ nor. record { seat = h.seat; view = h.view; at = set_else (set views id (both_of v w)) other h.seat spent_view nor ∙ (set_else views id h.seat (both_of v w) not ∙ h.at); index = h.index; part = h.part; part_at = h.part_at; worker_is = h.worker_is }))
 
-    pub join_stands : Stands about words (set (set views id (both_of v w)) other spent_view) s
+    pub join_stands : WordsStand about words (set (set views id (both_of v w)) other spent_view) s
     join_stands = anew join_owner (set (set views id (both_of v w)) other spent_view)
         (λ j x e i z here. ⊎_elim
         (λ t. absurd (none_at i z (subst (λ (q : View). get_elem? q.parts i ≡ some z) (sym t.1) here)))

@@ -10,7 +10,7 @@ use Rattle.raw_model.specs.Start.{MachineState}
 use Rattle.raw_fabric_rule.specs.Views.{About, Hold, Part, View}
 use Rattle.raw_fabric_rule.specs.ByEnds.{procs, wires}
 use Rattle.raw_fabric_rule.specs.Word.{status}
-use Rattle.raw_fabric_rule.specs.Rule.{Holder, IsHold, IsPart, Flows, Stands}
+use Rattle.raw_fabric_rule.specs.Rule.{Holder, IsHold, IsPart, Flows, WordsStand}
 use Rattle.raw_fabric_rule.specs.Plays.{HasHold, touch_part}
 use Rattle.raw_fabric_rule.proofs.Lists.{at_map_back, at_touched, length-touched}
 
@@ -37,7 +37,7 @@ held_set views id v w g k at keeps parts_is h = dite (ℕ_discrete h.seat id)
     })
     (λ not. record { seat = h.seat; view = h.view; at = set_else views id h.seat w not ∙ h.at; index = h.index; part = h.part; part_at = h.part_at; worker_is = h.worker_is })
 
-module _ (about : About) (words words' : List ℕ) (views : List View) (s : MachineState) (r : Stands about words views s) (id : ℕ) (v w : View) (f : About → ℕ → Hold → Hold)
+module _ (about : About) (words words' : List ℕ) (views : List View) (s : MachineState) (r : WordsStand about words views s) (id : ℕ) (v w : View) (f : About → ℕ → Hold → Hold)
     (at : get_elem? views id ≡ some v)
     (others : (p : ℕ) (u : Hold) → r.owner (p % about.workers) ≢ id → IsHold about words r.counts r.history s p u → IsHold about words' r.counts r.history s p u)
     (own : (p : ℕ) (u : Hold) → r.owner (p % about.workers) ≡ id → HasHold v p u → IsHold about words r.counts r.history s p u → IsHold about words' r.counts r.history s p (f about p u)) where
@@ -67,7 +67,7 @@ module _ (about : About) (words words' : List ℕ) (views : List View) (s : Mach
 
   pub unmoved : w.parts ≡ map (touch_part f) v.parts → length words' ≡ length words → ((p : ℕ) → p < procs about.set → status words' p ≡ status words p)
       → ((i : ℕ) → 16 * procs about.set ≤ i → get_or words' i 0 < 2 ^ 32)
-      → ((x : ℕ) → x < wires about.set → Flows about words' r.counts r.history s x) → Stands about words' (set views id w) s
+      → ((x : ℕ) → x < wires about.set → Flows about words' r.counts r.history s x) → WordsStand about words' (set views id w) s
   unmoved parts_is long same few flow = record {
     counts = r.counts;
     owner = r.owner;

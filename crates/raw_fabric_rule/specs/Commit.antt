@@ -7,7 +7,7 @@ use Rattle.raw_model.specs.Start.{MachineState}
 use Rattle.raw_model.specs.Rest.{enabled, step}
 use Rattle.raw_fabric_rule.specs.Views.{About, Hold, View}
 use Rattle.raw_fabric_rule.specs.Word.{status_at}
-use Rattle.raw_fabric_rule.specs.Rule.{Stands, HasStood}
+use Rattle.raw_fabric_rule.specs.Rule.{WordsStand, HasStood}
 use Rattle.raw_fabric_rule.specs.Plays.{HasHold, fired, values_of}
 
 -- The store of this word as the status word of p, by a seat with this view, is one step of p: whatever other views there are,
@@ -15,8 +15,8 @@ use Rattle.raw_fabric_rule.specs.Plays.{HasHold, fired, values_of}
 -- for the state after the step.
 abbrev pub IsStepOf : About → ℕ → ℕ → View → Type 0
 IsStepOf about p word v =
-    (words : List ℕ) (views : List View) (s : MachineState) (seat : ℕ) → Stands about words views s → get_elem? views seat ≡ some v →
-    (enabled about.set s p ≡ true) × Stands about (slice_set words (status_at p) word) (slice_set views seat (fired p v)) (step about.set s p)
+    (words : List ℕ) (views : List View) (s : MachineState) (seat : ℕ) → WordsStand about words views s → get_elem? views seat ≡ some v →
+    (enabled about.set s p ≡ true) × WordsStand about (slice_set words (status_at p) word) (slice_set views seat (fired p v)) (step about.set s p)
 
 -- The word is stored as the status word of p, by a seat with this view.
 pub record IsCommitted (about : About) (p word : ℕ) (v : View) : Type 0 where

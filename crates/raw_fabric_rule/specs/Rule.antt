@@ -91,7 +91,7 @@ pub record Holder (views : List View) (k : ℕ) : Type 0 where
 
 -- The rule. A lawful list leads from the opened state to s; each worker's part is held by exactly one seat, with its log of
 -- that list; the status words pack the exact counts, and the data words between them are the values on the wires.
-pub record Stands (about : About) (words : List ℕ) (views : List View) (s : MachineState) : Type 0 where
+pub record WordsStand (about : About) (words : List ℕ) (views : List View) (s : MachineState) : Type 0 where
   pub counts : ℕ → List ℕ
   pub owner : ℕ → ℕ
   pub history : List ℕ
@@ -117,10 +117,10 @@ pub record HasStood (about : About) (v : View) : Type 0 where
   pub words : List ℕ
   pub views : List View
   pub state : MachineState
-  pub stands : Stands about words views state
+  pub stands : WordsStand about words views state
   pub seat : ℕ
   pub at : get_elem? views seat ≡ some v
 
 -- the rule of the table: such a state is there
 abbrev pub Rule : {S : Type 0} → About → State S View → Type 0
-Rule about st = (s : MachineState) × Stands about st.words st.views s
+Rule about st = (s : MachineState) × WordsStand about st.words st.views s

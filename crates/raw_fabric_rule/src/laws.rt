@@ -16,7 +16,7 @@ ghost use Rattle.raw_fabric_rule.specs.declared.layout.TheConstants.{END_COUNT, 
 ghost use Rattle.raw_fabric_rule.specs.ByEnds.{needs, gives, fills, sent, next_local};
 ghost use Rattle.raw_fabric_rule.specs.ByKind.{tile_needs, tile_gives, switch_needs, switch_gives, end_if, handed_to, outputs_filled, values_filled, sent_by_end, IsWireOf};
 ghost use Rattle.raw_fabric_rule.specs.Views.{About, View};
-ghost use Rattle.raw_fabric_rule.specs.Rule.{Stands};
+ghost use Rattle.raw_fabric_rule.specs.Rule.{WordsStand};
 ghost use Rattle.raw_fabric_rule.specs.Conditions.{MayFire};
 ghost use Rattle.raw_fabric_rule.specs.Commit.{IsStepOf};
 
@@ -24,7 +24,7 @@ ghost use Rattle.raw_fabric_rule.specs.Commit.{IsStepOf};
 /// step of its processor.
 pub fn law_rule()
     ensures one_state { (about : About) (words : List ℕ) (views : List View) (s t : MachineState) →
-        Stands about words views s → Stands about words views t → s ≡ t }
+        WordsStand about words views s → WordsStand about words views t → s ≡ t }
     ensures commit { (about : About) (v : View) (p word : ℕ) → MayFire about v p word → IsStepOf about p word v }
 {}
 

@@ -18,10 +18,10 @@ use Rattle.raw_model.specs.Program.{ProgramSet}
 use Rattle.raw_model.specs.Local.{Local, TileLocal}
 use Rattle.raw_model.specs.TileTable.{word_at, gives}
 use Rattle.raw_model.specs.Start.{MachineState}
-use Rattle.raw_codegen.specs.Script.{Part, ToSwitch, to_tile, to_switches}
+use Rattle.raw_codegen.specs.Parts.{Part, ToSwitch, to_tile, to_switches}
 use Rattle.raw_codegen.specs.Steps.{Leads, SameWires, HasCome, IsGone, HasPassed, IsAlone}
 use Rattle.raw_codegen.specs.Straight.{Core, IsCore, core_with, at_tile, row_of_ins, nothing, only, Does, IsPlain, Turns, SendsWord, TakesWord, PassesOn}
-use Rattle.raw_codegen.specs.Standing.{to_tile_wire, from_tile_wire, IsScript, Stands, HasGone}
+use Rattle.raw_codegen.specs.Standing.{to_tile_wire, from_tile_wire, IsScript, PartsStand, HasGone}
 use Rattle.raw_codegen.specs.Rows.{IsKeeping, store_ins, written, with_word}
 use Rattle.raw_codegen.proofs.Moves.{more}
 use Rattle.raw_route.specs.Hauls.{Haulage, IsHaul}
@@ -39,7 +39,7 @@ use Rattle.raw_flow.proofs.Knowing.{AllKnow, with_memory, memory_here, memory_th
 -- all tiles and switches stand behind these parts, each tile has the values that it is said to have, and these are the local states of the ports
 pub record Has (set : ProgramSet) (vals : List ℕ) (parts : List Part) (held : List Holding) (states : ℕ → Option Local) (s : MachineState) : Type 0 where
   pub memories : ℕ → List ℕ
-  pub stands : Stands set parts memories s
+  pub stands : PartsStand set parts memories s
   pub know : AllKnow vals held memories
   pub ports : (q : ℕ) → slice_get s.locals (2 * tile_count set.topo + q) ≡ states q
 

@@ -5,7 +5,7 @@ use Rattle.raw_tile_isa.specs.Made as tile
 use Rattle.raw_tile_isa.specs.Words.{word_sub, word_mul_low, word_shift_left}
 use Rattle.raw_switch_isa.specs.Instruction.{SwitchInstruction}
 use Rattle.raw_switch_isa.specs.Made as switch
-use Rattle.raw_codegen.specs.Script.{tile_part, switch_part}
+use Rattle.raw_codegen.specs.Parts.{tile_part, switch_part}
 use Rattle.raw_codegen.specs.Rows.{load_ins, store_ins}
 use Rattle.raw_route.specs.Tree.{in_tree, is_left, entry, tree_instruction}
 use Rattle.raw_flow.specs.declared.node.FlowOp.TheVariants.{Add, Sub, Mul, ShiftLeft}

@@ -22,7 +22,7 @@ use Rattle.raw_model.specs.TileTable.{gives, word_at}
 use Rattle.raw_model.specs.Start.{MachineState, Fits}
 use Rattle.raw_model.specs.Laws.{ComesToRest}
 use Rattle.raw_model.specs.Rest.{IsLawfulFrom, end_from}
-use Rattle.raw_codegen.specs.Script.{Part, ToSwitch, tile_part, to_tile, to_switches, script_programs}
+use Rattle.raw_codegen.specs.Parts.{Part, ToSwitch, tile_part, to_tile, to_switches, script_programs}
 use Rattle.raw_codegen.specs.Lawful.{IsPart, AreParts}
 use Rattle.raw_codegen.specs.Limits.{AreShort}
 use Rattle.raw_codegen.specs.Steps.{Leads, IsNext, one_value, Changed, HasCome, IsGone}

@@ -19,7 +19,7 @@ use Rattle.raw_grid.specs.declared.parts.PortKind.TheVariants as kinds
 use Rattle.raw_grid.specs.declared.parts.PortPlace.{PortPlace}
 use Rattle.raw_grid.specs.Topology.{Topology, IsTopology}
 use Rattle.raw_model.specs.Program.{PortProgram, IsPortProgram, IsOfKind, AreOfKinds, IsShow, IsSet}
-use Rattle.raw_codegen.specs.Script.{Part, ToSwitch, tile_part, to_tile, to_switches, script_program, script_programs}
+use Rattle.raw_codegen.specs.Parts.{Part, ToSwitch, tile_part, to_tile, to_switches, script_program, script_programs}
 use Rattle.raw_codegen.specs.Lawful.{AreParts}
 use Rattle.raw_codegen.specs.Limits.{IsShort, AreShort}
 use Rattle.raw_codegen.specs.Rows.{register_of, store_ins, to_side}

@@ -8,7 +8,7 @@ use Rattle.raw_grid.specs.declared.parts.Net.TheVariants.{One}
 use Rattle.raw_model.specs.Local.{Local}
 use Rattle.raw_model.specs.Program.{ProgramSet}
 use Rattle.raw_model.specs.Start.{MachineState}
-use Rattle.raw_codegen.specs.Script.{Part, to_tile, to_switches}
+use Rattle.raw_codegen.specs.Parts.{Part, to_tile, to_switches}
 use Rattle.raw_codegen.specs.Steps.{Leads}
 use Rattle.raw_codegen.specs.Standing.{to_tile_wire, from_tile_wire, IsScript}
 use Rattle.raw_codegen.proofs.Moves.{stay, then, more}

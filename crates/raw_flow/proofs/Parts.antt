@@ -3,7 +3,7 @@ use Rattle.std.proofs.Common.{◌≡◌, ℕ, Bool, List, [], ◌∷◌, ◌++�
 use Rattle.raw_tile_isa.specs.Instruction.{Instruction}
 use Rattle.raw_tile_isa.specs.Load.{load}
 use Rattle.raw_model.specs.Program.{TileProgram}
-use Rattle.raw_codegen.specs.Script.{Part, ToTile, ToSwitch, to_tile, to_switches, Gives}
+use Rattle.raw_codegen.specs.Parts.{Part, ToTile, ToSwitch, to_tile, to_switches, Gives}
 use Rattle.raw_codegen.specs.Limits.{Overflows}
 use Rattle.raw_codegen.specs.Rows.{store_ins, from_side, to_side}
 use Rattle.raw_route.specs.Hauls.{Haulage}

@@ -13,7 +13,7 @@ use Rattle.raw_grid.specs.Topology.{switch_number}
 use Rattle.raw_model.specs.Local.{Local, Source, Sink}
 use Rattle.raw_model.specs.Program.{ProgramSet}
 use Rattle.raw_model.specs.Start.{MachineState}
-use Rattle.raw_codegen.specs.Script.{Part, ToSwitch, to_tile}
+use Rattle.raw_codegen.specs.Parts.{Part, ToSwitch, to_tile}
 use Rattle.raw_codegen.specs.Rows.{from_side, to_side}
 use Rattle.raw_codegen.specs.Steps.{Leads}
 use Rattle.raw_codegen.specs.Standing.{to_tile_wire, from_tile_wire, IsScript}

@@ -8,17 +8,17 @@ use Rattle.raw_model.specs.Program.{ProgramSet}
 use Rattle.raw_model.specs.Local.{Local, Source, Sink}
 use Rattle.raw_model.specs.Machine.{port_outputs, port_inputs, port_program, words_of, capacity_of}
 use Rattle.raw_model.specs.Start.{MachineState, Fits}
-use Rattle.raw_codegen.specs.Script.{Part}
+use Rattle.raw_codegen.specs.Parts.{Part}
 use Rattle.raw_codegen.specs.Steps.{Leads, IsNext, one_value, Changed, HasCome, IsGone}
-use Rattle.raw_codegen.specs.Standing.{IsScript, Stands}
+use Rattle.raw_codegen.specs.Standing.{IsScript, PartsStand}
 use Rattle.raw_codegen.proofs.Moves.{more}
 use Rattle.raw_flow.specs.Places.{Holding}
 use Rattle.raw_flow.proofs.Given.{Laws}
 use Rattle.raw_flow.proofs.Chunks.{Rests, Sends, alone_come, idle_gone}
 
 -- where a port has taken a step, tiles and switches stand where they stood
-port_stands : (set : ProgramSet) (parts : List Part) (memories : ℕ → List ℕ) (s r : MachineState) (p : ℕ) (l : Local) → Stands set parts memories s → 2 * tile_count set.topo ≤ p → Changed s r p l → Fits set r
-    → Stands set parts memories r
+port_stands : (set : ProgramSet) (parts : List Part) (memories : ℕ → List ℕ) (s r : MachineState) (p : ℕ) (l : Local) → PartsStand set parts memories s → 2 * tile_count set.topo ≤ p → Changed s r p l → Fits set r
+    → PartsStand set parts memories r
 port_stands set parts memories s r p l old behind changed fits = record {
   tiles = λ t h. ((old.tiles t h).0, changed.others t (λ e. omega arith) ∙ (old.tiles t h).1);
   switches = λ t h. ((old.switches t h).0, changed.others (switch_number set.topo t) (λ e. omega arith) ∙ (old.switches t h).1);

@@ -2,11 +2,11 @@
 use Rattle.std.proofs.Common.{◌≡◌, ℕ, ◌+◌, ◌^◌, ◌<◌, List, [], ◌++◌, length, subst, arith}
 use Rattle.std.proofs.lemmas.Option.{slice_get_within, get_or_from_slice_get}
 use Rattle.raw_model.specs.declared.limits.TheConstants.{DEFAULT_DEPTH}
-use Rattle.raw_codegen.specs.declared.limits.TheConstants.{SCRIPT_LIMIT}
+use Rattle.raw_codegen.specs.declared.limits.TheConstants.{PARTS_LIMIT}
 use Rattle.raw_grid.specs.Topology.{Topology}
 use Rattle.raw_model.specs.declared.program.Show.{Show}
 use Rattle.raw_model.specs.Program.{ProgramSet, TileProgram, PortProgram, IsPortProgram, IsSet}
-use Rattle.raw_codegen.specs.Script.{Part, programs_of, script_programs, Gives}
+use Rattle.raw_codegen.specs.Parts.{Part, programs_of, script_programs, Gives}
 use Rattle.raw_codegen.specs.Limits.{AreShort, IsTooLong, Overflows}
 use Rattle.raw_flow.specs.Flows.{Dataflow, IsFlow, AreInputs}
 use Rattle.raw_flow.specs.Ports.{FlowPorts, ArePorts, picked, placed_topo}
@@ -48,9 +48,9 @@ module _ (laws : GivingLaws) (flow : Dataflow) (ports : FlowPorts) (w0 : List Ti
 pub set_is : (flow : Dataflow) (ports : FlowPorts) (inputs : List ℕ) (topo : Topology) (programs : List PortProgram) (tiles : List TileProgram) (shows : List Show)
     → topo ≡ placed_topo flow ports → programs ≡ port_programs flow ports inputs
     → tiles ≡ script_programs (tiles_in flow) (flow_parts flow ports) → shows ≡ []
-    → ◌≡◌ {A = ProgramSet} (record { topo = topo; limit = SCRIPT_LIMIT; depth = DEFAULT_DEPTH; ports = programs; tiles = tiles; shows = shows }) (compiled_at flow ports inputs)
+    → ◌≡◌ {A = ProgramSet} (record { topo = topo; limit = PARTS_LIMIT; depth = DEFAULT_DEPTH; ports = programs; tiles = tiles; shows = shows }) (compiled_at flow ports inputs)
 unfolding compiled_at
-set_is flow ports inputs topo programs tiles shows a b c d = λ i. record { topo = a i; limit = SCRIPT_LIMIT; depth = DEFAULT_DEPTH; ports = b i; tiles = c i; shows = d i }
+set_is flow ports inputs topo programs tiles shows a b c d = λ i. record { topo = a i; limit = PARTS_LIMIT; depth = DEFAULT_DEPTH; ports = b i; tiles = c i; shows = d i }
 
 pub is_valid : EachPlacedIsSet → (flow : Dataflow) (ports : FlowPorts) (inputs : List ℕ) → IsFlow flow → ArePorts flow ports → AreInputs flow inputs → (tiles : List TileProgram)
     → tiles ≡ script_programs (tiles_in flow) (flow_parts flow ports) → AreShort tiles → IsSet (compiled_at flow ports inputs)

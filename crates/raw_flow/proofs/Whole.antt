@@ -12,7 +12,7 @@ use Rattle.raw_model.specs.Start.{MachineState, start, first_memory}
 use Rattle.raw_model.specs.Rest.{end, end_from}
 use Rattle.raw_model.specs.Laws.{ComesToRest}
 use Rattle.raw_model.specs.Parts.{got_of}
-use Rattle.raw_codegen.specs.Script.{Part}
+use Rattle.raw_codegen.specs.Parts.{Part}
 use Rattle.raw_codegen.specs.Steps.{Leads}
 use Rattle.raw_codegen.specs.Standing.{IsScript, PortsAreStopped, HasHalted}
 use Rattle.raw_codegen.proofs.Moves.{then, more}

@@ -2,7 +2,7 @@
 use Rattle.std.specs.Prelude.{ℕ, ◌+◌, ◌*◌, ◌%◌, Option, Some, None, List, [], ◌∷◌, ◌++◌, length, map, take, slice_get, if◌then◌else◌}
 use Rattle.std.specs.List.{range_with_len}
 use Rattle.raw_model.specs.declared.limits.TheConstants.{DEFAULT_DEPTH}
-use Rattle.raw_codegen.specs.declared.limits.TheConstants.{SCRIPT_LIMIT}
+use Rattle.raw_codegen.specs.declared.limits.TheConstants.{PARTS_LIMIT}
 use Rattle.raw_tile_isa.specs.declared.table.TileOp.TheVariants as tile
 use Rattle.raw_tile_isa.specs.Instruction.{Instruction}
 use Rattle.raw_tile_isa.specs.Load.{load}
@@ -12,7 +12,7 @@ use Rattle.raw_grid.specs.declared.parts.Net.TheVariants.{One}
 use Rattle.raw_grid.specs.declared.parts.PortPlace.{PortPlace}
 use Rattle.raw_grid.specs.Topology.{Topology, with_west_ports}
 use Rattle.raw_model.specs.Program.{ProgramSet, PortProgram}
-use Rattle.raw_codegen.specs.Script.{Part, ToSwitch, to_tile, to_switches, script_programs}
+use Rattle.raw_codegen.specs.Parts.{Part, ToSwitch, to_tile, to_switches, script_programs}
 use Rattle.raw_codegen.specs.Rows.{register_of, load_ins, store_ins, from_side, to_side}
 use Rattle.raw_route.specs.Hauls.{Haulage}
 use Rattle.raw_route.specs.Tree.{tree_ins}
@@ -183,7 +183,7 @@ port_programs flow ports inputs =
 unfoldable pub compiled_at : Dataflow → FlowPorts → List ℕ → ProgramSet
 compiled_at flow ports inputs = record {
   topo = placed_topo flow ports;
-  limit = SCRIPT_LIMIT;
+  limit = PARTS_LIMIT;
   depth = DEFAULT_DEPTH;
   ports = port_programs flow ports inputs;
   tiles = script_programs (tiles_in flow) (flow_parts flow ports);

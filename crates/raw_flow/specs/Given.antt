@@ -2,7 +2,7 @@
 use Rattle.std.specs.Prelude.{◌≡◌, ℕ, ◌*◌, ◌<◌, ◌≤◌, Bool, List, length}
 use Rattle.raw_grid.specs.declared.limits.TheConstants.{MAX_TILES}
 use Rattle.raw_model.specs.Program.{TileProgram}
-use Rattle.raw_codegen.specs.Script.{Part, Gives}
+use Rattle.raw_codegen.specs.Parts.{Part, Gives}
 use Rattle.raw_flow.specs.declared.limits.TheConstants.{MAX_NODES}
 use Rattle.raw_flow.specs.Flows.{Dataflow}
 use Rattle.raw_flow.specs.Places.{Holding, AreMarks}

@@ -1,6 +1,6 @@
 //! The compiled set.
 ghost use Rattle.std.specs.Prelude.{◌≡◌, ◌⊎◌, List, length, IfOk, IfErr, OnOk, Err};
-ghost use Rattle.raw_codegen.specs.Script.{Gives, script_programs};
+ghost use Rattle.raw_codegen.specs.Parts.{Gives, script_programs};
 ghost use Rattle.raw_codegen.specs.Limits.{AreShort, Overflows};
 ghost use Rattle.raw_flow.specs.Flows.{inputs_in};
 ghost use Rattle.raw_flow.specs.Places.{Holding, AreMarks};
@@ -15,7 +15,7 @@ use crate::laws::{law_compiled_at, law_flow_at};
 use crate::places::Places;
 use crate::ports::{Ports, keeps_rules, placed_topo, port_programs, tiles_in};
 use crate::refusal::FlowRefusal;
-use raw_codegen::{GiveRefusal, Programs, SCRIPT_LIMIT, law_giving, words_fit};
+use raw_codegen::{GiveRefusal, PARTS_LIMIT, Programs, law_giving, words_fit};
 use raw_model::limits::DEFAULT_DEPTH;
 use raw_model::{Set, TileProg};
 use std::alloc::Global;
@@ -124,7 +124,7 @@ fn programs(alloc: Global, flow: &Flow, ports: &Ports) -> Result<Vec<TileProg>, 
 /// source those of its own inputs. Each lawful list of its steps that comes to rest is done, and each sink has the values
 /// of the outs that go to it, in their order.
 ///
-/// Its programs have no loops, so that no processor comes to the limit, `SCRIPT_LIMIT`.
+/// Its programs have no loops, so that no processor comes to the limit, `PARTS_LIMIT`.
 pub fn compile_at(
     alloc: Global,
     flow: &Flow,
@@ -151,7 +151,7 @@ pub fn compile_at(
     let ports = port_programs(alloc, flow, ports, inputs)?;
     Ok(Set {
         topo,
-        limit: SCRIPT_LIMIT,
+        limit: PARTS_LIMIT,
         depth: DEFAULT_DEPTH,
         ports,
         tiles,

@@ -1,6 +1,6 @@
 //! What nodes and outs give to tiles and switches.
 ghost use Rattle.std.specs.Prelude.{◌≡◌, ℕ, ◌<◌, ◌≤◌, List, length, take, IfOk, OnOk, Err};
-ghost use Rattle.raw_codegen.specs.Script.{to_tile, Gives};
+ghost use Rattle.raw_codegen.specs.Parts.{to_tile, Gives};
 ghost use Rattle.raw_codegen.specs.Limits.{Overflows};
 ghost use Rattle.raw_codegen.specs.Rows.{register_of, load_ins, store_ins, from_side, to_side};
 ghost use Rattle.raw_flow.specs.Flows.{IsNode, with_input, inputs_in};

@@ -9,9 +9,9 @@ use Rattle.raw_flow_text.specs.declared.builder.Builder.{Builder}
 use Rattle.raw_flow_text.specs.Statement.{Statement}
 use Rattle.raw_flow_text.specs.Flows.{size_in, nodes_in, outs_in, fed_by}
 use Rattle.raw_flow_text.specs.Faults.{end_fault}
-use Rattle.raw_flow_text.specs.Building.{Stands}
+use Rattle.raw_flow_text.specs.Building.{BuilderStands}
 
-module _ (builder : Builder) (said : List Statement) (stands : Stands builder said) where
+module _ (builder : Builder) (said : List Statement) (stands : BuilderStands builder said) where
   pub no_grid : builder.size ≡ None → end_fault said ≡ Some Missing
   unfolding end_fault
   no_grid none = ap (λ size. fault_if (is_none size || eqb (length (outs_in said)) 0) Missing (fault_if (ltb MAX_NODES (length (nodes_in said))) OverLimit None)) (sym stands.size ∙ none)

@@ -12,7 +12,7 @@ use Rattle.raw_flow_text.specs.Forms.{line_statement}
 use Rattle.raw_flow_text.specs.Flows.{FedFlow, fed_by}
 use Rattle.raw_flow_text.specs.Faults.{line_fault, end_fault}
 use Rattle.raw_flow_text.specs.Meaning.{said_before, fault_at, fed_in, IsMeaning, IsCause}
-use Rattle.raw_flow_text.specs.Building.{Stands, Answers}
+use Rattle.raw_flow_text.specs.Building.{BuilderStands, Answers}
 use Rattle.raw_flow_text.proofs.Next.{said_next}
 use Rattle.raw_flow_text.proofs.Causes.{passed, refused_at}
 
@@ -29,8 +29,8 @@ module _ (wanted : Option (ℕ × ℕ)) (from : ℕ) (lines : List (List (List �
   pub line_passes : (k : ℕ) → k < length lines → AreFaultless (fault_at wanted lines) k → line_fault wanted (said_before lines k) (get_or lines k []) ≡ None → AreFaultless (fault_at wanted lines) (k + 1)
   line_passes k lt before none = more_faultless (fault_at wanted lines) k before (at_line k lt ∙ none)
 
-  pub stands_next : (builder : Builder) (k : ℕ) → k < length lines → Stands builder (said_before lines k ++ option_to_list (line_statement (get_or lines k []))) → Stands builder (said_before lines (k + 1))
-  stands_next builder k lt stands = subst (Stands builder) (sym (said_next lines k lt)) stands
+  pub stands_next : (builder : Builder) (k : ℕ) → k < length lines → BuilderStands builder (said_before lines k ++ option_to_list (line_statement (get_or lines k []))) → BuilderStands builder (said_before lines (k + 1))
+  stands_next builder k lt stands = subst (BuilderStands builder) (sym (said_next lines k lt)) stands
 
   -- a line is refused
   pub line_refused : (T : Type 0) (k number : ℕ) (refusal : SetRefusal) → number ≡ k + 1 + from → k < length lines → AreFaultless (fault_at wanted lines) k → Answers {T = T} (Err refusal) number (line_fault wanted (said_before lines k) (get_or lines k [])) → IsCause wanted from lines refusal

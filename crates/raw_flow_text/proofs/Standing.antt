@@ -21,17 +21,17 @@ use Rattle.raw_flow_text.specs.Statement.{Statement}
 use Rattle.raw_flow_text.specs.Statement.Statement.{Grid, Input, Const, Apply, Out}
 use Rattle.raw_flow_text.specs.Flows.{size_of, size_in, name_of, names_in, number_in, node_number, node_of, out_of, word_of}
 use Rattle.raw_flow_text.specs.Faults.{has_name, statement_fault}
-use Rattle.raw_flow_text.specs.Building.{Stands, Adds, Defines}
+use Rattle.raw_flow_text.specs.Building.{BuilderStands, Adds, Defines}
 use Rattle.raw_flow_text.proofs.Next.{filter_next, given_next, number_next, count}
 
 -- what each part gets from the statement
-module _ (old new : Builder) (said : List Statement) (statement : Statement) (stands : Stands old said) where
+module _ (old new : Builder) (said : List Statement) (statement : Statement) (stands : BuilderStands old said) where
   pub extended : new.size ≡ slice_get (filter_map size_of said ++ option_to_list (size_of statement)) 0
       → ((other : List ℕ) → value_in new.numbers other ≡ number_in (names_in said ++ option_to_list (name_of statement)) other)
       → new.nodes.items ≡ old.nodes.items ++ option_to_list (node_of (names_in said) statement)
       → new.outs.items ≡ old.outs.items ++ option_to_list (out_of (names_in said) statement)
       → new.inputs.items ≡ old.inputs.items ++ option_to_list (word_of statement)
-      → Stands new (said ++ statement ∷ [])
+      → BuilderStands new (said ++ statement ∷ [])
   extended size numbers nodes outs inputs = record {
     size = size ∙ ap (λ sizes. slice_get sizes 0) (sym (filter_next size_of said statement));
     numbers = λ other. numbers other ∙ ap (λ names. number_in names other) (sym (filter_next name_of said statement));
@@ -57,11 +57,11 @@ module _ (old new : Builder) (said : List Statement) (statement : Statement) (st
       ∙ sym (number_next (names_in said) name other)
 
 -- a name that is new defines a node
-pub defined : (old mid new : Builder) (said : List Statement) (statement : Statement) (name : List ℕ) (last : Node) → Stands old said
+pub defined : (old mid new : Builder) (said : List Statement) (statement : Statement) (name : List ℕ) (last : Node) → BuilderStands old said
     → name_of statement ≡ Some name → size_of statement ≡ None → node_of (names_in said) statement ≡ Some last → out_of (names_in said) statement ≡ None
     → Defines old mid name last → new.size ≡ mid.size → new.numbers ≡ mid.numbers → new.nodes ≡ mid.nodes → new.outs ≡ mid.outs
     → new.inputs.items ≡ mid.inputs.items ++ option_to_list (word_of statement)
-    → Stands new (said ++ statement ∷ [])
+    → BuilderStands new (said ++ statement ∷ [])
 defined old mid new said statement name last stands names sizes nodes outs defines same_sizes same_names same_nodes same_outs inputs =
     extended old new said statement stands
     (subst (λ o. new.size ≡ slice_get (filter_map size_of said ++ option_to_list o) 0) (sym sizes)
@@ -77,9 +77,9 @@ first_push [] x none = refl
 first_push (y ∷ xs) x none = absurd (cc none)
 
 -- the grid
-pub grid_added : (old new : Builder) (said : List Statement) (columns rows : ℕ) → Stands old said → is_some (size_in said) ≡ false
+pub grid_added : (old new : Builder) (said : List Statement) (columns rows : ℕ) → BuilderStands old said → is_some (size_in said) ≡ false
     → new.size ≡ Some (columns, rows) → new.numbers ≡ old.numbers → new.nodes ≡ old.nodes → new.outs ≡ old.outs → new.inputs ≡ old.inputs
-    → Stands new (said ++ Grid columns rows ∷ [])
+    → BuilderStands new (said ++ Grid columns rows ∷ [])
 grid_added old new said columns rows stands none size numbers nodes outs inputs =
     extended old new said (Grid columns rows) stands
     (size ∙ sym (first_push (filter_map size_of said) (columns, rows) none))
@@ -89,13 +89,13 @@ grid_added old new said columns rows stands none size numbers nodes outs inputs 
     (ap (λ v. v.items) inputs ∙ sym (append-nil old.inputs.items))
 
 -- the number of a name that is there
-pub number_is : (builder : Builder) (said : List Statement) (name : List ℕ) (number : ℕ) → Stands builder said → value_in builder.numbers name ≡ Some number → node_number (names_in said) name ≡ number
+pub number_is : (builder : Builder) (said : List Statement) (name : List ℕ) (number : ℕ) → BuilderStands builder said → value_in builder.numbers name ≡ Some number → node_number (names_in said) name ≡ number
 number_is builder said name number stands is = ap (λ o. unwrap_or o 0) (sym (stands.numbers name) ∙ is)
 
 -- a value that is wanted
-pub out_added : (old new : Builder) (said : List Statement) (name : List ℕ) (number : ℕ) → Stands old said → value_in old.numbers name ≡ Some number
+pub out_added : (old new : Builder) (said : List Statement) (name : List ℕ) (number : ℕ) → BuilderStands old said → value_in old.numbers name ≡ Some number
     → new.size ≡ old.size → new.numbers ≡ old.numbers → new.nodes ≡ old.nodes → new.outs.items ≡ old.outs.items ++ number ∷ [] → new.inputs ≡ old.inputs
-    → Stands new (said ++ Out name ∷ [])
+    → BuilderStands new (said ++ Out name ∷ [])
 out_added old new said name number stands is size numbers nodes outs inputs =
     extended old new said (Out name) stands
     (same_size old new said (Out name) stands size)
@@ -105,18 +105,18 @@ out_added old new said name number stands is size numbers nodes outs inputs =
     (ap (λ v. v.items) inputs ∙ sym (append-nil old.inputs.items))
 
 -- whether a name is there
-pub has_is : (builder : Builder) (said : List Statement) (name : List ℕ) (number : Option ℕ) (test : Bool) → Stands builder said → number ≡ value_in builder.numbers name → is_some number ≡ test → has_name said name ≡ test
+pub has_is : (builder : Builder) (said : List Statement) (name : List ℕ) (number : Option ℕ) (test : Bool) → BuilderStands builder said → number ≡ value_in builder.numbers name → is_some number ≡ test → has_name said name ≡ test
 has_is builder said name number test stands is there = ap is_some (sym (stands.numbers name)) ∙ ap is_some (sym is) ∙ there
 
-pub has_not : (builder : Builder) (said : List Statement) (name : List ℕ) → Stands builder said → value_in builder.numbers name ≡ None → has_name said name ≡ false
+pub has_not : (builder : Builder) (said : List Statement) (name : List ℕ) → BuilderStands builder said → value_in builder.numbers name ≡ None → has_name said name ≡ false
 has_not builder said name stands none = has_is builder said name None false stands (sym none) refl
 
-pub has_found : (builder : Builder) (said : List Statement) (name : List ℕ) → Stands builder said → is_some (value_in builder.numbers name) ≡ true → has_name said name ≡ true
+pub has_found : (builder : Builder) (said : List Statement) (name : List ℕ) → BuilderStands builder said → is_some (value_in builder.numbers name) ≡ true → has_name said name ≡ true
 has_found builder said name stands some = has_is builder said name (value_in builder.numbers name) true stands refl some
 
 -- a refusal of the line that is passed on
 pub refused : {T : Type 0} (old new : Builder) (line : ℕ) (result : Result T SetRefusal) (refusal : SetRefusal) (kind : SetKind) (statement : Statement) → IsErrAnd result (λ other. other ≡ refusal)
-    → refusal ≡ At line kind → ((said : List Statement) → Stands old said → statement_fault said statement ≡ Some kind) → Adds old new line result statement
+    → refusal ≡ At line kind → ((said : List Statement) → BuilderStands old said → statement_fault said statement ≡ Some kind) → Adds old new line result statement
 refused old new line (Ok done) refusal kind statement is at fault = absurd is
 refused {T} old new line (Err other) refusal kind statement is at fault =
     subst (λ r. Adds {T = T} old new line (Err r) statement) (sym (is ∙ at)) (record { fault = λ said stands. (refl, fault said stands); stands = λ said stands. tt })

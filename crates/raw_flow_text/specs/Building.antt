@@ -17,7 +17,7 @@ abbrev pub node_count : Builder → ℕ
 node_count builder = length builder.nodes.items
 
 -- a flow that is being built, for these statements
-pub record Stands (builder : Builder) (said : List Statement) : Type 0 where
+pub record BuilderStands (builder : Builder) (said : List Statement) : Type 0 where
   pub size : builder.size ≡ size_in said
   pub numbers : (name : List ℕ) → value_in builder.numbers name ≡ number_in (names_in said) name
   pub nodes : builder.nodes.items ≡ nodes_in said
@@ -32,8 +32,8 @@ Answers (Err Memory) number fault = Unit {0}
 
 -- a statement is added, or the line of this number refused with its fault
 pub record Adds {T : Type 0} (old new : Builder) (number : ℕ) (result : Result T SetRefusal) (statement : Statement) : Type 0 where
-  pub fault : (said : List Statement) → Stands old said → Answers result number (statement_fault said statement)
-  pub stands : (said : List Statement) → Stands old said → OnOk result (Stands new (said ++ statement ∷ []))
+  pub fault : (said : List Statement) → BuilderStands old said → Answers result number (statement_fault said statement)
+  pub stands : (said : List Statement) → BuilderStands old said → OnOk result (BuilderStands new (said ++ statement ∷ []))
 
 -- a node with this name is added
 pub record Defines (old new : Builder) (name : List ℕ) (node : Node) : Type 0 where

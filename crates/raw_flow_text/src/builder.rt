@@ -9,7 +9,7 @@ ghost use Rattle.raw_flow_text.specs.Statement.Statement.{Grid, Input, Const, Ap
 ghost use Rattle.raw_flow_text.specs.Flows.{fed_by, IsFed};
 ghost use Rattle.raw_flow_text.specs.Faults.{is_unwanted, line_fault, end_fault};
 ghost use Rattle.raw_flow_text.specs.Forms.{out_line, line_statement};
-ghost use Rattle.raw_flow_text.specs.Building.{node_count, Stands, Answers, Adds, Defines};
+ghost use Rattle.raw_flow_text.specs.Building.{node_count, BuilderStands, Answers, Adds, Defines};
 
 use crate::forms::read_line;
 use crate::input::FlowInput;
@@ -80,7 +80,7 @@ fn is_unwanted(wanted: Option<(u8, u8)>, said: Line<'_>) -> bool
 impl<'a> Builder<'a> {
     /// A flow of which no line is added yet.
     pub fn new(alloc: Global) -> Builder<'a>
-        ensures stands { Stands result [] }
+        ensures stands { BuilderStands result [] }
         ensures empty { node_count result ≡ 0 }
     {
         Builder {
@@ -221,9 +221,9 @@ impl<'a> Builder<'a> {
         line: &Tokens<'a>,
     ) -> Result<(), SetRefusal>
         requires few { node_count self.old < MAX_TEXT }
-        ensures fault { (said : List Statement) → Stands self.old said → Answers result number (line_fault wanted said (tokens_of line.now)) }
-        ensures stands { (said : List Statement) → Stands self.old said →
-            OnOk result (Stands self.new (said ++ option_to_list (line_statement (tokens_of line.now)))) }
+        ensures fault { (said : List Statement) → BuilderStands self.old said → Answers result number (line_fault wanted said (tokens_of line.now)) }
+        ensures stands { (said : List Statement) → BuilderStands self.old said →
+            OnOk result (BuilderStands self.new (said ++ option_to_list (line_statement (tokens_of line.now)))) }
         ensures few { OnOk result (node_count self.new ≤ node_count self.old + 1) }
     {
         if line.len() == 0 {
@@ -241,10 +241,10 @@ impl<'a> Builder<'a> {
 
     /// Adds what a line `out NAME` with this name says, or refuses it.
     pub fn add_out_line(&mut self, number: u32, name: &[u8]) -> Result<(), SetRefusal>
-        ensures fault { (size : ℕ × ℕ) (said : List Statement) → Stands self.old said →
+        ensures fault { (size : ℕ × ℕ) (said : List Statement) → BuilderStands self.old said →
             Answers result number (line_fault (Some size) said (out_line name.now)) }
-        ensures stands { (said : List Statement) → Stands self.old said →
-            OnOk result (Stands self.new (said ++ option_to_list (line_statement (out_line name.now)))) }
+        ensures stands { (said : List Statement) → BuilderStands self.old said →
+            OnOk result (BuilderStands self.new (said ++ option_to_list (line_statement (out_line name.now)))) }
         ensures few { OnOk result (node_count self.new ≤ node_count self.old + 1) }
     {
         if self.size.is_none() {
@@ -258,9 +258,9 @@ impl<'a> Builder<'a> {
 
     /// The flow with the words of its inputs, where all lines are added; `end` is the number of the line after the last.
     pub fn finish(self, end: u32) -> Result<FlowInput, SetRefusal>
-        requires { (said : List Statement) × (Stands self said) × (end_fault said ≡ None → IsFed (fed_by said)) }
-        ensures fault { (said : List Statement) → Stands self.entry said → Answers result end (end_fault said) }
-        ensures fed { (said : List Statement) → Stands self.entry said → IfOk result (λ input. input ≡ fed_by said) }
+        requires { (said : List Statement) × (BuilderStands self said) × (end_fault said ≡ None → IsFed (fed_by said)) }
+        ensures fault { (said : List Statement) → BuilderStands self.entry said → Answers result end (end_fault said) }
+        ensures fed { (said : List Statement) → BuilderStands self.entry said → IfOk result (λ input. input ≡ fed_by said) }
     {
         let Some((cols, rows)) = self.size else {
             return Err(at(end, SetKind::Missing));

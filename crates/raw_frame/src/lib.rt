@@ -15,5 +15,5 @@ pub use part::Part;
 pub use registers::{Held, Registers};
 pub use slots::Slots;
 pub use table::Table;
-pub use waiting::{Waiting, Waits};
+pub use waiting::{ReadyList, Waiting};
 pub use wires::{Arrival, Wires, Word};

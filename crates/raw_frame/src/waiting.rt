@@ -11,14 +11,14 @@ pub struct Waiting {
 
 /// Values by rising ranks.
 #[derive(Drop)]
-pub struct Waits {
+pub struct ReadyList {
     items: Vec<Waiting>,
 }
 
-impl Waits {
+impl ReadyList {
     /// None.
-    pub fn new(alloc: Global) -> Waits {
-        Waits {
+    pub fn new(alloc: Global) -> ReadyList {
+        ReadyList {
             items: Vec::new(alloc),
         }
     }

@@ -25,8 +25,8 @@ use Rattle.raw_either_flow.specs.Texts.{EitherMeaning, EitherFault}
 use Rattle.raw_claim_text.specs.Marked.{mark_in, FaultBefore, IsFaultBehind}
 use Rattle.raw_image.specs.Image.{Image, ImageFault}
 use Rattle.raw_inputs.specs.declared.marked.Scripted.{Scripted}
-use Rattle.raw_command_line.specs.declared.words.SetForm.{SetForm}
-use Rattle.raw_command_line.specs.declared.words.SetForm.TheVariants as set_form
+use Rattle.raw_command_line.specs.declared.arguments.SetForm.{SetForm}
+use Rattle.raw_command_line.specs.declared.arguments.SetForm.TheVariants as set_form
 use Rattle.raw_inputs.specs.declared.form.InputForm.{InputForm}
 use Rattle.raw_inputs.specs.declared.form.InputForm.TheVariants as form
 use Rattle.raw_inputs.specs.declared.flaw.LineKind.{LineKind}
@@ -159,10 +159,10 @@ HasFault form.Image input (refusal.Image offset kind) = ImageFault input offset 
 HasFault _ input (refusal.Image offset kind) = ⊥
 
 -- why an input is not read as a set: its fault, or want of memory
-abbrev pub IsUnset : InputForm → List ℕ → Failure → Type 0
-IsUnset form input (Refused (flaw.At refusal)) = HasFault form input refusal
-IsUnset form input Memory = Unit {0}
-IsUnset form input _ = ⊥
+abbrev pub IsRefusalOf : InputForm → List ℕ → Failure → Type 0
+IsRefusalOf form input (Refused (flaw.At refusal)) = HasFault form input refusal
+IsRefusalOf form input Memory = Unit {0}
+IsRefusalOf form input _ = ⊥
 
 -- an input has a fault as the text of a stream, whatever else it may be
 abbrev pub HasStreamFault : List ℕ → Refusal → Type 0

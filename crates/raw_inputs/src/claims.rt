@@ -5,7 +5,7 @@ ghost use Rattle.raw_set_text.specs.Texts.{token_lines};
 ghost use Rattle.raw_claim_text.specs.Meaning as claim;
 ghost use Rattle.raw_row_claim_text.specs.Meaning as rows;
 ghost use Rattle.raw_inputs.specs.Claimed.{says_rows, IsClaimed};
-ghost use Rattle.raw_inputs.specs.Inputs.{IsUnset};
+ghost use Rattle.raw_inputs.specs.Inputs.{IsRefusalOf};
 
 use crate::flaw::Failure;
 use crate::form::InputForm;
@@ -28,9 +28,9 @@ pub enum Claimed {
 // Why a set and a claim are not read.
 fn of_claim(refusal: SetRefusal) -> Failure
     ensures flow { (bytes : List ℕ) → text.first_fault 1 (text.lines_of bytes) ≡ None → says_rows bytes ≡ false →
-        claim.IsCause (token_lines bytes) refusal → IsUnset InputForm.Claim bytes result }
+        claim.IsCause (token_lines bytes) refusal → IsRefusalOf InputForm.Claim bytes result }
     ensures rows { (bytes : List ℕ) → text.first_fault 1 (text.lines_of bytes) ≡ None → says_rows bytes ≡ true →
-        rows.IsCause (token_lines bytes) refusal → IsUnset InputForm.Claim bytes result }
+        rows.IsCause (token_lines bytes) refusal → IsRefusalOf InputForm.Claim bytes result }
 {
     match refusal {
         SetRefusal::At { line, kind } => refused_at(line, kind),
@@ -42,7 +42,7 @@ fn of_claim(refusal: SetRefusal) -> Failure
 pub fn claim_in(alloc: Global, input: Vec<u8>) -> Result<Claimed, Failure>
     requires { length input.items ≤ MAX_TEXT }
     ensures meaning { IfOk result (IsClaimed input.items) }
-    ensures cause { IfErr result (IsUnset InputForm.Claim input.items) }
+    ensures cause { IfErr result (IsRefusalOf InputForm.Claim input.items) }
 {
     let text = match read_text(alloc, input) {
         Ok(text) => text,

@@ -11,7 +11,7 @@ ghost use Rattle.raw_stream_text.specs.Meaning as stream;
 ghost use Rattle.raw_either_flow.specs.Texts.{CauseOf};
 ghost use Rattle.raw_claim_text.specs.Marked.{mark_in};
 ghost use Rattle.raw_shell.specs.declared.failure.Failure.TheVariants.{Refused};
-ghost use Rattle.raw_inputs.specs.Inputs.{whole, Means, IsUnset, IsNoStream};
+ghost use Rattle.raw_inputs.specs.Inputs.{whole, Means, IsRefusalOf, IsNoStream};
 
 use crate::flaw::{Failure, InputFlaw, LineKind, Refusal};
 use crate::form::InputForm;
@@ -45,17 +45,17 @@ pub fn refused_at(line: u32, kind: SetKind) -> Failure
 /// Why bytes are no text.
 pub fn refused_text(refusal: TextRefusal) -> Failure
     ensures set { (bytes : List ℕ) → text.IsCause refusal (text.first_fault 1 (text.lines_of bytes)) →
-        IsUnset InputForm.Text bytes result }
+        IsRefusalOf InputForm.Text bytes result }
     ensures plan { (bytes : List ℕ) → text.IsCause refusal (text.first_fault 1 (text.lines_of bytes)) →
-        IsUnset InputForm.Plan bytes result }
+        IsRefusalOf InputForm.Plan bytes result }
     ensures flow { (bytes : List ℕ) → text.IsCause refusal (text.first_fault 1 (text.lines_of bytes)) →
-        IsUnset InputForm.Flow bytes result }
+        IsRefusalOf InputForm.Flow bytes result }
     ensures history { (bytes : List ℕ) → text.IsCause refusal (text.first_fault 1 (text.lines_of bytes)) →
-        IsUnset InputForm.History bytes result }
+        IsRefusalOf InputForm.History bytes result }
     ensures script { (bytes : List ℕ) → text.IsCause refusal (text.first_fault 1 (text.lines_of bytes)) →
-        IsUnset InputForm.Script bytes result }
+        IsRefusalOf InputForm.Script bytes result }
     ensures claim { (bytes : List ℕ) → text.IsCause refusal (text.first_fault 1 (text.lines_of bytes)) →
-        IsUnset InputForm.Claim bytes result }
+        IsRefusalOf InputForm.Claim bytes result }
     ensures stream { (bytes : List ℕ) → text.IsCause refusal (text.first_fault 1 (text.lines_of bytes)) →
         IsNoStream bytes result }
 {
@@ -68,23 +68,23 @@ pub fn refused_text(refusal: TextRefusal) -> Failure
 
 pub(crate) fn of_set(refusal: SetRefusal) -> Failure
     ensures set { (bytes : List ℕ) → text.first_fault 1 (text.lines_of bytes) ≡ None →
-        set.IsCause (token_lines bytes) refusal → IsUnset InputForm.Text bytes result }
+        set.IsCause (token_lines bytes) refusal → IsRefusalOf InputForm.Text bytes result }
     ensures plan { (bytes : List ℕ) → text.first_fault 1 (text.lines_of bytes) ≡ None →
-        plan.IsCause (token_lines bytes) refusal → IsUnset InputForm.Plan bytes result }
+        plan.IsCause (token_lines bytes) refusal → IsRefusalOf InputForm.Plan bytes result }
     // The same of the lines before the line `history`, or of all where there is none;
     ensures before_history { (bytes : List ℕ) (place : ℕ) → text.first_fault 1 (text.lines_of bytes) ≡ None →
         mark_in (codes "history") (token_lines bytes) ≡ Some place → set.IsCause (take place (token_lines bytes)) refusal →
-        IsUnset InputForm.History bytes result }
+        IsRefusalOf InputForm.History bytes result }
     ensures no_history { (bytes : List ℕ) → text.first_fault 1 (text.lines_of bytes) ≡ None →
         mark_in (codes "history") (token_lines bytes) ≡ None → set.IsCause (token_lines bytes) refusal →
-        IsUnset InputForm.History bytes result }
+        IsRefusalOf InputForm.History bytes result }
     // and of those before the line `script`.
     ensures before_script { (bytes : List ℕ) (place : ℕ) → text.first_fault 1 (text.lines_of bytes) ≡ None →
         mark_in (codes "script") (token_lines bytes) ≡ Some place → set.IsCause (take place (token_lines bytes)) refusal →
-        IsUnset InputForm.Script bytes result }
+        IsRefusalOf InputForm.Script bytes result }
     ensures no_script { (bytes : List ℕ) → text.first_fault 1 (text.lines_of bytes) ≡ None →
         mark_in (codes "script") (token_lines bytes) ≡ None → set.IsCause (token_lines bytes) refusal →
-        IsUnset InputForm.Script bytes result }
+        IsRefusalOf InputForm.Script bytes result }
 {
     match refusal {
         SetRefusal::At { line, kind } => refused_at(line, kind),
@@ -95,7 +95,7 @@ pub(crate) fn of_set(refusal: SetRefusal) -> Failure
 /// Why the text of a flow or of a stream is not read.
 pub fn refused_flow(refusal: SetRefusal) -> Failure
     ensures { (bytes : List ℕ) → text.first_fault 1 (text.lines_of bytes) ≡ None →
-        CauseOf (is_stream (token_lines bytes)) (token_lines bytes) refusal → IsUnset InputForm.Flow bytes result }
+        CauseOf (is_stream (token_lines bytes)) (token_lines bytes) refusal → IsRefusalOf InputForm.Flow bytes result }
 {
     match refusal {
         SetRefusal::At { line, kind } => refused_at(line, kind),
@@ -115,7 +115,7 @@ pub(crate) fn refused_stream(refusal: SetRefusal) -> Failure
 }
 
 fn of_image(refusal: ImageRefusal) -> Failure
-    ensures { (bytes : List ℕ) → IsRefusal bytes refusal → IsUnset InputForm.Image bytes result }
+    ensures { (bytes : List ℕ) → IsRefusal bytes refusal → IsRefusalOf InputForm.Image bytes result }
 {
     match refusal {
         ImageRefusal::At { offset, kind } => Failure::Refused(InputFlaw::At(Refusal::Image(
@@ -130,7 +130,7 @@ pub fn text_in(alloc: Global, input: Vec<u8>) -> Result<SetText, Failure>
     requires { length input.items ≤ MAX_TEXT }
     ensures lines { IfOk result (λ read. text_lines read.text ≡ token_lines input.items) }
     ensures meaning { IfOk result (λ read. Means InputForm.Text input.items read.set) }
-    ensures cause { IfErr result (IsUnset InputForm.Text input.items) }
+    ensures cause { IfErr result (IsRefusalOf InputForm.Text input.items) }
 {
     let text = match read_text(alloc, input) {
         Ok(text) => text,
@@ -146,7 +146,7 @@ pub fn text_in(alloc: Global, input: Vec<u8>) -> Result<SetText, Failure>
 fn set_of_text(alloc: Global, input: Vec<u8>) -> Result<Set, Failure>
     requires { length input.items ≤ MAX_TEXT }
     ensures meaning { IfOk result (Means InputForm.Text input.items) }
-    ensures cause { IfErr result (IsUnset InputForm.Text input.items) }
+    ensures cause { IfErr result (IsRefusalOf InputForm.Text input.items) }
 {
     match text_in(alloc, input) {
         Ok(read) => Ok(read.set),
@@ -157,7 +157,7 @@ fn set_of_text(alloc: Global, input: Vec<u8>) -> Result<Set, Failure>
 // The set whose image these bytes are.
 fn set_of_image(alloc: Global, bytes: &[u8]) -> Result<Set, Failure>
     ensures meaning { IfOk result (Means InputForm.Image bytes.now) }
-    ensures cause { IfErr result (IsUnset InputForm.Image bytes.now) }
+    ensures cause { IfErr result (IsRefusalOf InputForm.Image bytes.now) }
 {
     match read_image(alloc, bytes) {
         Ok(set) => Ok(set),
@@ -169,7 +169,7 @@ fn set_of_image(alloc: Global, bytes: &[u8]) -> Result<Set, Failure>
 fn set_of_plan(alloc: Global, input: Vec<u8>) -> Result<Set, Failure>
     requires { length input.items ≤ MAX_TEXT }
     ensures meaning { IfOk result (Means InputForm.Plan input.items) }
-    ensures cause { IfErr result (IsUnset InputForm.Plan input.items) }
+    ensures cause { IfErr result (IsRefusalOf InputForm.Plan input.items) }
 {
     let text = match read_text(alloc, input) {
         Ok(text) => text,
@@ -200,7 +200,7 @@ fn set_of_plan(alloc: Global, input: Vec<u8>) -> Result<Set, Failure>
 fn set_of_flow(alloc: Global, input: Vec<u8>) -> Result<Set, Failure>
     requires { length input.items ≤ MAX_TEXT }
     ensures meaning { IfOk result (Means InputForm.Flow input.items) }
-    ensures cause { IfErr result (IsUnset InputForm.Flow input.items) }
+    ensures cause { IfErr result (IsRefusalOf InputForm.Flow input.items) }
 {
     let text = match read_text(alloc, input) {
         Ok(text) => text,
@@ -224,7 +224,7 @@ fn set_of_flow(alloc: Global, input: Vec<u8>) -> Result<Set, Failure>
 pub fn set_in(alloc: Global, form: SetForm, input: Vec<u8>) -> Result<Set, Failure>
     requires { length input.items ≤ MAX_TEXT }
     ensures meaning { IfOk result (Means (whole form) input.items) }
-    ensures cause { IfErr result (IsUnset (whole form) input.items) }
+    ensures cause { IfErr result (IsRefusalOf (whole form) input.items) }
 {
     match form {
         SetForm::Text => set_of_text(alloc, input),

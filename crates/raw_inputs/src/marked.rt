@@ -11,7 +11,7 @@ ghost use Rattle.raw_debug.specs.Commands.{bad_command};
 ghost use Rattle.raw_report.specs.History.{IsCause as IsEntryCause};
 ghost use Rattle.raw_steps.specs.Taking.{numbers, AreThere};
 ghost use Rattle.raw_claim_text.specs.Marked.{mark_in};
-ghost use Rattle.raw_inputs.specs.Inputs.{AreSaid, IsScripted, IsUnset};
+ghost use Rattle.raw_inputs.specs.Inputs.{AreSaid, IsScripted, IsRefusalOf};
 
 use crate::flaw::{Failure, InputFlaw, LineKind, Refusal};
 use crate::form::InputForm;
@@ -50,7 +50,7 @@ fn of_entries(refusal: HistoryRefusal) -> Failure
     ensures { (bytes : List ℕ) (place : ℕ) (set : ProgramSet) → first_fault 1 (lines_of bytes) ≡ None →
         mark_in (codes "history") (token_lines bytes) ≡ Some place → IsMeaning (take place (token_lines bytes)) set →
         IsEntryCause (proc_count set.topo) (place + 1) (drop (place + 1) (token_lines bytes)) refusal →
-        IsUnset InputForm.History bytes result }
+        IsRefusalOf InputForm.History bytes result }
 {
     match refusal {
         HistoryRefusal::BadEntry { line } => {
@@ -63,9 +63,9 @@ fn of_entries(refusal: HistoryRefusal) -> Failure
 // Why an input without the mark is refused: the fault of its set, or else the line that is missing.
 fn without_mark(alloc: Global, text: &Text) -> Failure
     ensures history { (bytes : List ℕ) → first_fault 1 (lines_of bytes) ≡ None → text_lines text.now ≡ token_lines bytes →
-        mark_in (codes "history") (token_lines bytes) ≡ None → IsUnset InputForm.History bytes result }
+        mark_in (codes "history") (token_lines bytes) ≡ None → IsRefusalOf InputForm.History bytes result }
     ensures script { (bytes : List ℕ) → first_fault 1 (lines_of bytes) ≡ None → text_lines text.now ≡ token_lines bytes →
-        mark_in (codes "script") (token_lines bytes) ≡ None → IsUnset InputForm.Script bytes result }
+        mark_in (codes "script") (token_lines bytes) ≡ None → IsRefusalOf InputForm.Script bytes result }
 {
     match read_set(alloc, text, text.line_count()) {
         Ok(_) => refused_at(text.line_count() as u32 + 1, SetKind::Missing),
@@ -78,7 +78,7 @@ pub fn steps_in(alloc: Global, input: Vec<u8>) -> Result<Marked, Failure>
     requires { length input.items ≤ MAX_TEXT }
     ensures says { IfOk result (λ marked. AreSaid input.items marked.set (numbers marked.steps.items)) }
     ensures there { IfOk result (λ marked. AreThere (proc_count marked.set.topo) marked.steps.items) }
-    ensures cause { IfErr result (IsUnset InputForm.History input.items) }
+    ensures cause { IfErr result (IsRefusalOf InputForm.History input.items) }
 {
     let text = match read_text(alloc, input) {
         Ok(text) => text,
@@ -116,7 +116,7 @@ fn bad_line(alloc: Global, set: &Set, text: &Text, mark: usize) -> Result<Option
 pub fn script_in(alloc: Global, input: Vec<u8>) -> Result<Scripted, Failure>
     requires { length input.items ≤ MAX_TEXT }
     ensures says { IfOk result (IsScripted input.items) }
-    ensures cause { IfErr result (IsUnset InputForm.Script input.items) }
+    ensures cause { IfErr result (IsRefusalOf InputForm.Script input.items) }
 {
     let text = match read_text(alloc, input) {
         Ok(text) => text,

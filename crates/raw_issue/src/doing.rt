@@ -1,7 +1,7 @@
 //! What a tile does.
-use crate::making::{Goal, Making, Plan};
-use crate::state::{Issue, Source, network};
-use crate::tile::Local;
+use crate::making::{Destination, Move, ReadyOperation};
+use crate::state::{Issue, OperandPlace, network};
+use crate::tile::ValuePlace;
 use raw_frame::{Arrival, Held, Word};
 use raw_graph::Operand;
 use raw_grid::Net;
@@ -10,8 +10,8 @@ use std::alloc::AllocError;
 
 impl Issue<'_> {
     // Takes what an operand is from its network.
-    fn take_source(&mut self, tile: usize, source: Source) {
-        if let Source::Network(net) = source {
+    fn take_source(&mut self, tile: usize, source: OperandPlace) {
+        if let OperandPlace::Network(net) = source {
             let wire = self.wires.to_tile(tile, net);
             self.wires.take(wire);
         }
@@ -29,7 +29,7 @@ impl Issue<'_> {
     }
 
     // The operands of an operation have been read. An immediate is no constant that was loaded.
-    fn operands_used(&mut self, tile: usize, making: Making) -> Result<(), AllocError> {
+    fn operands_used(&mut self, tile: usize, making: ReadyOperation) -> Result<(), AllocError> {
         let first = making.step.first();
         match making.step.second() {
             Some(second) if second == first => self.operand_used(tile, first),
@@ -65,19 +65,19 @@ impl Issue<'_> {
     }
 
     // A value that was made is put where it goes; the register that is written.
-    fn put(&mut self, tile: usize, making: Making) -> Result<u8, AllocError> {
+    fn put(&mut self, tile: usize, making: ReadyOperation) -> Result<u8, AllocError> {
         match making.goal {
-            Goal::Network(net) => {
+            Destination::Network(net) => {
                 let word = self.word_of(making.value);
                 let wire = self.wires.from_tile(tile, net);
                 self.wires.send(wire, word);
                 Ok(network(net))
             }
-            Goal::Sink => {
+            Destination::Sink => {
                 self.send_next_out(tile);
                 Ok(network(Net::One))
             }
-            Goal::Register => self.put_in_register(tile, making.value),
+            Destination::Register => self.put_in_register(tile, making.value),
         }
     }
 
@@ -85,7 +85,7 @@ impl Issue<'_> {
     fn put_in_register(&mut self, tile: usize, value: usize) -> Result<u8, AllocError> {
         let register = self.free_register(tile, [0, 0]).unwrap_or(0);
         self.hold(tile, register, Held::Value(value));
-        let local = Local {
+        let local = ValuePlace {
             register,
             ..self.local(tile, value)
         };
@@ -95,8 +95,8 @@ impl Issue<'_> {
     }
 
     // Whether there will be a register for what is made.
-    fn has_place(&mut self, tile: usize, making: Making) -> bool {
-        if making.goal != Goal::Register || self.frees(tile, making.step) {
+    fn has_place(&mut self, tile: usize, making: ReadyOperation) -> bool {
+        if making.goal != Destination::Register || self.frees(tile, making.step) {
             return true;
         }
         let kept = [making.first.kept(), making.second.kept()];
@@ -104,7 +104,7 @@ impl Issue<'_> {
     }
 
     // Does an operation, or makes room for what it makes.
-    fn make(&mut self, tile: usize, making: Making) -> Result<bool, AllocError> {
+    fn make(&mut self, tile: usize, making: ReadyOperation) -> Result<bool, AllocError> {
         if !self.has_place(tile, making) {
             let kept = [making.first.kept(), making.second.kept()];
             return self.spill(tile, kept);
@@ -120,12 +120,12 @@ impl Issue<'_> {
     }
 
     /// Does what was planned, or makes room for it. False where nothing could be done.
-    pub(crate) fn do_plan(&mut self, tile: usize, plan: Plan) -> Result<bool, AllocError> {
+    pub(crate) fn do_plan(&mut self, tile: usize, plan: Move) -> Result<bool, AllocError> {
         match plan {
-            Plan::Make(making) => self.make(tile, making),
-            Plan::Receive { net, kept } => self.receive(tile, net, kept),
-            Plan::Load { value, kept } => self.load(tile, value, kept),
-            Plan::LoadWord { word, kept } => self.load_word(tile, word, kept),
+            Move::Make(making) => self.make(tile, making),
+            Move::Receive { net, kept } => self.receive(tile, net, kept),
+            Move::Load { value, kept } => self.load(tile, value, kept),
+            Move::LoadWord { word, kept } => self.load_word(tile, word, kept),
         }
     }
 

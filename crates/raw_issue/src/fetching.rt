@@ -1,6 +1,6 @@
 //! What has to be done before an operand can be read.
 use crate::state::{Issue, network};
-use crate::tile::{Half, Local};
+use crate::tile::{HalfConstant, ValuePlace};
 use raw_frame::Held;
 use raw_grid::Net;
 use raw_selection::{copy, load, store};
@@ -39,7 +39,7 @@ impl Issue<'_> {
         };
         self.take(tile, net);
         self.emit(tile, store(network(net), cell))?;
-        let local = Local {
+        let local = ValuePlace {
             cell,
             ..self.local(tile, value)
         };
@@ -58,7 +58,7 @@ impl Issue<'_> {
         self.take(tile, net);
         self.emit(tile, copy(register, network(net)))?;
         self.hold(tile, register, Held::Value(value));
-        let local = Local {
+        let local = ValuePlace {
             register,
             ..self.local(tile, value)
         };
@@ -95,7 +95,7 @@ impl Issue<'_> {
         let local = self.local(tile, value);
         self.emit(tile, load(register, local.cell))?;
         self.hold(tile, register, Held::Value(value));
-        self.set_local(tile, value, Local { register, ..local });
+        self.set_local(tile, value, ValuePlace { register, ..local });
         Ok(true)
     }
 
@@ -113,7 +113,7 @@ impl Issue<'_> {
         self.emit(tile, first)?;
         if second.is_some() {
             self.hold(tile, register, Held::Half(word));
-            self.set_half(tile, Some(Half { register, word }));
+            self.set_half(tile, Some(HalfConstant { register, word }));
         } else {
             self.hold(tile, register, Held::Word(word));
         }
@@ -121,7 +121,11 @@ impl Issue<'_> {
     }
 
     /// Loads the lower half of a constant.
-    pub(crate) fn finish_word(&mut self, tile: usize, half: Half) -> Result<bool, AllocError> {
+    pub(crate) fn finish_word(
+        &mut self,
+        tile: usize,
+        half: HalfConstant,
+    ) -> Result<bool, AllocError> {
         let (_, second) = li(raw_selection::register(half.register), half.word);
         if let Some(second) = second {
             self.emit(tile, second)?;

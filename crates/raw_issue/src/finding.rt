@@ -1,14 +1,14 @@
 //! Where an operand is.
-use crate::state::{Issue, Source};
+use crate::state::{Issue, OperandPlace};
 use raw_frame::Held;
 use raw_graph::Operand;
 use raw_grid::Net;
 
 /// Where an operand is, or what has to be done first.
 #[derive(Clone, Copy)]
-pub(crate) enum Found {
+pub(crate) enum OperandFound {
     /// It can be read there; from a network behind so many words.
-    At { source: Source, place: usize },
+    At { source: OperandPlace, place: usize },
     /// A word has to be received from a network.
     OnNetwork(Net),
     /// It has to be loaded from memory.
@@ -19,11 +19,11 @@ pub(crate) enum Found {
     Nowhere,
 }
 
-impl Found {
+impl OperandFound {
     /// The register that has to keep what it holds; 0 for none.
     pub(crate) fn kept(self) -> u8 {
         match self {
-            Found::At { source, .. } => source.kept(),
+            OperandFound::At { source, .. } => source.kept(),
             _ => 0,
         }
     }
@@ -51,46 +51,46 @@ impl Issue<'_> {
     }
 
     // Where a constant is.
-    fn find_word(&self, tile: usize, word: u32) -> Found {
+    fn find_word(&self, tile: usize, word: u32) -> OperandFound {
         if word == 0 {
-            return Found::At {
-                source: Source::Register(0),
+            return OperandFound::At {
+                source: OperandPlace::Register(0),
                 place: 0,
             };
         }
         match self.that_holds(tile, Held::Word(word)) {
-            Some(register) => Found::At {
-                source: Source::Register(register),
+            Some(register) => OperandFound::At {
+                source: OperandPlace::Register(register),
                 place: 0,
             },
-            None => Found::Constant(word),
+            None => OperandFound::Constant(word),
         }
     }
 
     // Where a value is.
-    fn find_value(&self, tile: usize, value: usize) -> Found {
+    fn find_value(&self, tile: usize, value: usize) -> OperandFound {
         let local = self.local(tile, value);
         if local.register > 0 {
-            return Found::At {
-                source: Source::Register(local.register),
+            return OperandFound::At {
+                source: OperandPlace::Register(local.register),
                 place: 0,
             };
         }
         if local.cell > 0 {
-            return Found::InMemory(value);
+            return OperandFound::InMemory(value);
         }
         match self.on_network(tile, value) {
-            Some((net, place)) if place < 2 && local.uses == 1 => Found::At {
-                source: Source::Network(net),
+            Some((net, place)) if place < 2 && local.uses == 1 => OperandFound::At {
+                source: OperandPlace::Network(net),
                 place,
             },
-            Some((net, _)) => Found::OnNetwork(net),
-            None => Found::Nowhere,
+            Some((net, _)) => OperandFound::OnNetwork(net),
+            None => OperandFound::Nowhere,
         }
     }
 
     /// Where an operand is at a tile.
-    pub(crate) fn find(&self, tile: usize, operand: Operand) -> Found {
+    pub(crate) fn find(&self, tile: usize, operand: Operand) -> OperandFound {
         match operand {
             Operand::Word(word) => self.find_word(tile, word),
             Operand::Value(value) => self.find_value(tile, value),

@@ -1,13 +1,13 @@
 //! What a tile can do for an operation.
-use crate::finding::Found;
-use crate::state::{Issue, Source};
+use crate::finding::OperandFound;
+use crate::state::{Issue, OperandPlace};
 use raw_graph::Operand;
 use raw_grid::Net;
-use raw_selection::Step;
+use raw_selection::Operation;
 
 /// Where a value goes that is made.
 #[derive(Clone, Copy, PartialEq, Eq)]
-pub(crate) enum Goal {
+pub(crate) enum Destination {
     Register,
     /// To other tiles alone.
     Network(Net),
@@ -17,50 +17,50 @@ pub(crate) enum Goal {
 
 /// An operation that can be done now.
 #[derive(Clone, Copy)]
-pub(crate) struct Making {
+pub(crate) struct ReadyOperation {
     pub(crate) value: usize,
-    pub(crate) step: Step,
-    pub(crate) first: Source,
-    pub(crate) second: Source,
-    pub(crate) goal: Goal,
+    pub(crate) step: Operation,
+    pub(crate) first: OperandPlace,
+    pub(crate) second: OperandPlace,
+    pub(crate) goal: Destination,
 }
 
 /// What a tile can do for an operation: the operation, or what has to be done first. A register is kept by what is done
 /// first; 0 is none.
 #[derive(Clone, Copy)]
-pub(crate) enum Plan {
-    Make(Making),
+pub(crate) enum Move {
+    Make(ReadyOperation),
     Receive { net: Net, kept: u8 },
     Load { value: usize, kept: u8 },
     LoadWord { word: u32, kept: u8 },
 }
 
 // What has to be received.
-fn to_receive(found: Found, kept: u8) -> Option<Plan> {
+fn to_receive(found: OperandFound, kept: u8) -> Option<Move> {
     match found {
-        Found::OnNetwork(net) => Some(Plan::Receive { net, kept }),
+        OperandFound::OnNetwork(net) => Some(Move::Receive { net, kept }),
         _ => None,
     }
 }
 
 // What has to be loaded from memory.
-fn to_load(found: Found, kept: u8) -> Option<Plan> {
+fn to_load(found: OperandFound, kept: u8) -> Option<Move> {
     match found {
-        Found::InMemory(value) => Some(Plan::Load { value, kept }),
+        OperandFound::InMemory(value) => Some(Move::Load { value, kept }),
         _ => None,
     }
 }
 
 // The constant that has to be loaded.
-fn to_load_word(found: Found, kept: u8) -> Option<Plan> {
+fn to_load_word(found: OperandFound, kept: u8) -> Option<Move> {
     match found {
-        Found::Constant(word) => Some(Plan::LoadWord { word, kept }),
+        OperandFound::Constant(word) => Some(Move::LoadWord { word, kept }),
         _ => None,
     }
 }
 
 // What has to be done first, of two operands.
-fn to_fetch(first: Found, second: Found) -> Option<Plan> {
+fn to_fetch(first: OperandFound, second: OperandFound) -> Option<Move> {
     let (one, two) = (first.kept(), second.kept());
     to_receive(first, two)
         .or(to_receive(second, one))
@@ -71,9 +71,9 @@ fn to_fetch(first: Found, second: Found) -> Option<Plan> {
 }
 
 // The network from which a word has to be received so that one operand comes to its front.
-fn behind(source: Source, place: usize) -> Option<Net> {
+fn behind(source: OperandPlace, place: usize) -> Option<Net> {
     match source {
-        Source::Network(net) if place > 0 => Some(net),
+        OperandPlace::Network(net) if place > 0 => Some(net),
         _ => None,
     }
 }
@@ -100,7 +100,7 @@ impl Issue<'_> {
     }
 
     /// Whether an operation frees a register.
-    pub(crate) fn frees(&self, tile: usize, step: Step) -> bool {
+    pub(crate) fn frees(&self, tile: usize, step: Operation) -> bool {
         let second = match step.second() {
             Some(second) => self.is_freed(tile, second),
             None => false,
@@ -125,34 +125,34 @@ impl Issue<'_> {
     }
 
     // Where a value goes; none where it has to wait.
-    fn goal(&self, tile: usize, value: usize) -> Option<Goal> {
+    fn goal(&self, tile: usize, value: usize) -> Option<Destination> {
         let outs = self.task.graph.outs_of(value);
         let is_brought = self.task.needers(value) != 0;
         if self.task.local_uses(value) > 0 {
-            return Some(Goal::Register);
+            return Some(Destination::Register);
         }
         if is_brought && outs.is_empty() {
             let net = self.pick(tile)?;
-            return Some(Goal::Network(net));
+            return Some(Destination::Network(net));
         }
         let is_next = outs.len() == 1 && outs.first() == Some(&self.next_out);
         let has_room = self.wires.has_room(self.wires.from_tile(tile, Net::One));
         if !is_brought && is_next && has_room {
-            Some(Goal::Sink)
+            Some(Destination::Sink)
         } else {
-            Some(Goal::Register)
+            Some(Destination::Register)
         }
     }
 
     // The network from which a word has to be received before two operands can be read.
     fn in_the_way(
         &self,
-        step: Step,
-        first: (Source, usize),
-        second: (Source, usize),
+        step: Operation,
+        first: (OperandPlace, usize),
+        second: (OperandPlace, usize),
     ) -> Option<Net> {
         match (first.0, second.0) {
-            (Source::Network(one), Source::Network(two)) if one == two => {
+            (OperandPlace::Network(one), OperandPlace::Network(two)) if one == two => {
                 behind_both(one, (first.1, second.1), step.commutes())
             }
             _ => behind(first.0, first.1).or(behind(second.0, second.1)),
@@ -164,16 +164,16 @@ impl Issue<'_> {
         &self,
         tile: usize,
         value: usize,
-        step: Step,
-        first: (Source, usize),
-        second: (Source, usize),
-    ) -> Option<Plan> {
+        step: Operation,
+        first: (OperandPlace, usize),
+        second: (OperandPlace, usize),
+    ) -> Option<Move> {
         if let Some(net) = self.in_the_way(step, first, second) {
             let kept = first.0.kept().max(second.0.kept());
-            return Some(Plan::Receive { net, kept });
+            return Some(Move::Receive { net, kept });
         }
         let goal = self.goal(tile, value)?;
-        Some(Plan::Make(Making {
+        Some(Move::Make(ReadyOperation {
             value,
             step,
             first: first.0,
@@ -183,12 +183,12 @@ impl Issue<'_> {
     }
 
     // Where the second operand is; register 0 stands for none.
-    fn find_second(&self, tile: usize, step: Step) -> Found {
+    fn find_second(&self, tile: usize, step: Operation) -> OperandFound {
         self.find(tile, step.second().unwrap_or(Operand::Word(0)))
     }
 
     /// What a tile can do for a value, if anything.
-    pub(crate) fn plan(&self, tile: usize, value: usize) -> Option<Plan> {
+    pub(crate) fn plan(&self, tile: usize, value: usize) -> Option<Move> {
         let step = self.task.step(value)?;
         let first = self.find(tile, step.first());
         let second = self.find_second(tile, step);
@@ -197,11 +197,11 @@ impl Issue<'_> {
         }
         match (first, second) {
             (
-                Found::At {
+                OperandFound::At {
                     source: one,
                     place: before_one,
                 },
-                Found::At {
+                OperandFound::At {
                     source: two,
                     place: before_two,
                 },

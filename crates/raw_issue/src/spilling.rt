@@ -1,6 +1,6 @@
 //! Registers for new values, and memory where there is none.
 use crate::state::Issue;
-use crate::tile::Local;
+use crate::tile::ValuePlace;
 use raw_frame::{Held, Registers};
 use raw_selection::store;
 use std::alloc::AllocError;
@@ -27,7 +27,7 @@ impl Issue<'_> {
     // A register whose value has a copy in memory.
     fn copied_register(&mut self, tile: usize, kept: [u8; 2]) -> Option<u8> {
         let (register, value) = self.needed_last(tile, kept, true)?;
-        let local = Local {
+        let local = ValuePlace {
             register: 0,
             ..self.local(tile, value)
         };
@@ -63,7 +63,7 @@ impl Issue<'_> {
             return Ok(false);
         };
         self.emit(tile, store(register, cell))?;
-        let local = Local {
+        let local = ValuePlace {
             register: 0,
             cell,
             ..self.local(tile, value)
@@ -84,7 +84,7 @@ impl Issue<'_> {
             if local.cell > 0 {
                 self.free_cell(tile, local.cell)?;
             }
-            local = Local::NONE;
+            local = ValuePlace::NONE;
         }
         self.set_local(tile, value, local);
         Ok(())

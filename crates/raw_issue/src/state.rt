@@ -1,6 +1,6 @@
 //! The state of a run.
 use crate::task::Task;
-use crate::tile::{Half, Local, Tile};
+use crate::tile::{HalfConstant, Tile, ValuePlace};
 use raw_frame::{Arrival, Held, Table, Waiting, Wires};
 use raw_graph::Operand;
 use raw_grid::Net;
@@ -16,7 +16,7 @@ pub(crate) struct Issue<'a> {
     tiles: Vec<Tile>,
     pub(crate) programs: Vec<TileProg>,
     /// Where each value is at each tile.
-    locals: Table<Local>,
+    locals: Table<ValuePlace>,
     /// How many operands of each value have not come yet.
     missing: Table<usize>,
     issued: Table<bool>,
@@ -36,7 +36,7 @@ pub(crate) struct Issue<'a> {
 
 /// Where an operand is read.
 #[derive(Clone, Copy)]
-pub(crate) enum Source {
+pub(crate) enum OperandPlace {
     Register(u8),
     Network(Net),
 }
@@ -49,20 +49,20 @@ pub(crate) fn network(net: Net) -> u8 {
     }
 }
 
-impl Source {
+impl OperandPlace {
     /// The number of the register that is read.
     pub(crate) fn register(self) -> u8 {
         match self {
-            Source::Register(register) => register,
-            Source::Network(net) => network(net),
+            OperandPlace::Register(register) => register,
+            OperandPlace::Network(net) => network(net),
         }
     }
 
     /// The register that has to keep what it holds; 0 for none.
     pub(crate) fn kept(self) -> u8 {
         match self {
-            Source::Register(register) => register,
-            Source::Network(_) => 0,
+            OperandPlace::Register(register) => register,
+            OperandPlace::Network(_) => 0,
         }
     }
 }
@@ -94,7 +94,7 @@ impl<'a> Issue<'a> {
             wires: Wires::new(alloc, part)?,
             tiles,
             programs,
-            locals: Table::new(alloc, count.saturating_mul(part.tiles()), Local::NONE)?,
+            locals: Table::new(alloc, count.saturating_mul(part.tiles()), ValuePlace::NONE)?,
             missing: Table::new(alloc, count, 0)?,
             issued: Table::new(alloc, count, false)?,
             left: 0,
@@ -115,12 +115,12 @@ impl<'a> Issue<'a> {
     }
 
     /// Where a value is at a tile.
-    pub(crate) fn local(&self, tile: usize, value: usize) -> Local {
+    pub(crate) fn local(&self, tile: usize, value: usize) -> ValuePlace {
         self.locals.at(self.place(tile, value))
     }
 
     /// From now on a value is there.
-    pub(crate) fn set_local(&mut self, tile: usize, value: usize, local: Local) {
+    pub(crate) fn set_local(&mut self, tile: usize, value: usize, local: ValuePlace) {
         let place = self.place(tile, value);
         self.locals.put(place, local);
     }
@@ -250,7 +250,7 @@ impl<'a> Issue<'a> {
     }
 
     /// Sets which half of a constant is to come at a tile.
-    pub(crate) fn set_half(&mut self, tile: usize, half: Option<Half>) {
+    pub(crate) fn set_half(&mut self, tile: usize, half: Option<HalfConstant>) {
         if let Some(tile) = self.tiles.get_mut(tile) {
             tile.half = half;
         }

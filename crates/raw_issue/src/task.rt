@@ -2,7 +2,7 @@
 use raw_frame::{Part, Table};
 use raw_graph::{Graph, Operand};
 use raw_grid::{Dir, Net};
-use raw_selection::{Step, step_of};
+use raw_selection::{Operation, step_of};
 use std::alloc::{AllocError, Global};
 
 /// A graph on a part of a grid, with the tile and the rank of each value.
@@ -163,7 +163,7 @@ impl<'a> Task<'a> {
     }
 
     /// The instruction that makes a value.
-    pub(crate) fn step(&self, value: usize) -> Option<Step> {
+    pub(crate) fn step(&self, value: usize) -> Option<Operation> {
         step_of(self.graph.origin(value))
     }
 

@@ -1,6 +1,6 @@
 //! What is known of one tile.
 use raw_codegen::WORDS_IN_REACH;
-use raw_frame::{Held, Registers, Waits};
+use raw_frame::{Held, ReadyList, Registers};
 use std::alloc::{AllocError, Global};
 
 /// A constant that a tile needs, and how often yet.
@@ -12,14 +12,14 @@ pub(crate) struct Wanted {
 
 /// A register with the upper half of a constant, whose lower half is to come.
 #[derive(Clone, Copy)]
-pub(crate) struct Half {
+pub(crate) struct HalfConstant {
     pub(crate) register: u8,
     pub(crate) word: u32,
 }
 
 /// Where a value is at a tile, and how often it is still used there.
 #[derive(Clone, Copy)]
-pub(crate) struct Local {
+pub(crate) struct ValuePlace {
     /// Its register; 0 for none.
     pub(crate) register: u8,
     /// Its cell in memory, from 1; 0 for none.
@@ -27,9 +27,9 @@ pub(crate) struct Local {
     pub(crate) uses: u16,
 }
 
-impl Local {
+impl ValuePlace {
     /// Nowhere, and not used.
-    pub(crate) const NONE: Local = Local {
+    pub(crate) const NONE: ValuePlace = ValuePlace {
         register: 0,
         cell: 0,
         uses: 0,
@@ -46,15 +46,15 @@ impl Local {
 pub(crate) struct Tile {
     pub(crate) registers: Registers,
     /// The operations whose operands have come.
-    pub(crate) ready: Waits,
+    pub(crate) ready: ReadyList,
     /// The values that have been made, and are to be sent.
-    pub(crate) sends: Waits,
+    pub(crate) sends: ReadyList,
     /// Cells that are free again.
     cells: Vec<u16>,
     /// How many cells have been used.
     top: u16,
     constants: Vec<Wanted>,
-    pub(crate) half: Option<Half>,
+    pub(crate) half: Option<HalfConstant>,
     /// Whether it has done something in this cycle.
     pub(crate) is_busy: bool,
 }
@@ -64,8 +64,8 @@ impl Tile {
     pub(crate) fn new(alloc: Global) -> Tile {
         Tile {
             registers: Registers::new(),
-            ready: Waits::new(alloc),
-            sends: Waits::new(alloc),
+            ready: ReadyList::new(alloc),
+            sends: ReadyList::new(alloc),
             cells: Vec::new(alloc),
             top: 0,
             constants: Vec::new(alloc),

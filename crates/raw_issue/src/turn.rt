@@ -1,6 +1,6 @@
 //! What a tile does in a cycle.
 use crate::fetching::FEW;
-use crate::making::{Goal, Plan};
+use crate::making::{Destination, Move};
 use crate::state::Issue;
 use raw_grid::Net;
 use std::alloc::AllocError;
@@ -13,21 +13,22 @@ const LOOKED_AT_IN_NEED: usize = 48;
 
 impl Issue<'_> {
     // Whether a plan leaves no register less than before.
-    fn keeps_room(&self, tile: usize, plan: Plan) -> bool {
+    fn keeps_room(&self, tile: usize, plan: Move) -> bool {
         match plan {
-            Plan::Make(making) => making.goal != Goal::Register || self.frees(tile, making.step),
+            Move::Make(making) => making.goal != Destination::Register
+                || self.frees(tile, making.step),
             _ => false,
         }
     }
 
     // The plan for the operation at a place of those that are ready.
-    fn plan_at(&self, tile: usize, place: usize) -> Option<(usize, Option<Plan>)> {
+    fn plan_at(&self, tile: usize, place: usize) -> Option<(usize, Option<Move>)> {
         let waiting = self.tile(tile)?.ready.at(place)?;
         Some((waiting.rank, self.plan(tile, waiting.value)))
     }
 
     // The best that a tile can do for an operation, with the rank of that.
-    fn best_plan(&self, tile: usize) -> Option<(usize, Plan)> {
+    fn best_plan(&self, tile: usize) -> Option<(usize, Move)> {
         let is_tight = self.room(tile) <= FEW;
         let looked_at = if is_tight {
             LOOKED_AT_IN_NEED
@@ -50,7 +51,7 @@ impl Issue<'_> {
     }
 
     // The value that a tile sends in place of what it could do at a rank.
-    fn value_to_send(&self, tile: usize, best: Option<(usize, Plan)>) -> Option<usize> {
+    fn value_to_send(&self, tile: usize, best: Option<(usize, Move)>) -> Option<usize> {
         let waiting = self.tile(tile)?.sends.at(0)?;
         let is_first = match best {
             Some((rank, _)) => waiting.rank <= rank || self.room(tile) <= FEW,
@@ -63,7 +64,7 @@ impl Issue<'_> {
     fn try_to_send(
         &mut self,
         tile: usize,
-        best: Option<(usize, Plan)>,
+        best: Option<(usize, Move)>,
     ) -> Result<bool, AllocError> {
         let Some(value) = self.value_to_send(tile, best) else {
             return Ok(false);
@@ -99,7 +100,7 @@ impl Issue<'_> {
         if self.try_to_send(tile, best)? {
             return Ok(true);
         }
-        let is_making = matches!(&best, Some((_, Plan::Make(_))));
+        let is_making = matches!(&best, Some((_, Move::Make(_))));
         if !is_making && self.receive_full(tile)? {
             return Ok(true);
         }

@@ -18,7 +18,7 @@ use crate::ending::rest_line;
 use crate::engine::{Engine, Runner};
 use crate::fed::Fed;
 use crate::tail::Tail;
-use crate::together::{Answers, Ends, three};
+use crate::together::{Answers, Ends, run_beside};
 use crate::writer::Finish;
 use raw_io::{Failed, Sink, Source};
 use raw_live_text::Stop;
@@ -76,7 +76,7 @@ fn ending_at_rest(engine: Engine) -> Ending
 }
 
 // Runs the three, and then closes the queues.
-fn joined<R: Threads + Clock + Wait + Sync, S: Source + Send, K: Sink + Send, G: Gate>(
+fn run_and_close<R: Threads + Clock + Wait + Sync, S: Source + Send, K: Sink + Send, G: Gate>(
     rt: &R,
     alloc: Global,
     tail: Tail<'_>,
@@ -113,7 +113,7 @@ fn joined<R: Threads + Clock + Wait + Sync, S: Source + Send, K: Sink + Send, G:
         got: Sender::new(&queue_out, put_out),
         written: Receiver::new(&queue_out, take_out),
     };
-    let answers = three(rt, alloc, tail, &mut ends, engine, runner, source, out);
+    let answers = run_beside(rt, alloc, tail, &mut ends, engine, runner, source, out);
     let Ends {
         read,
         fed,
@@ -169,6 +169,6 @@ pub fn feed_live<R: Threads + Clock + Wait + Sync, S: Source + Send, K: Sink + S
         return Err(Halt::Memory);
     };
     let mut engine = engine;
-    let answers = joined(rt, alloc, tail, channels, &mut engine, runner, source, out);
+    let answers = run_and_close(rt, alloc, tail, channels, &mut engine, runner, source, out);
     finish(engine, answers, out)
 }

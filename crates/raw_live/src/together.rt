@@ -79,7 +79,12 @@ fn engine_and_writer<R: Threads + Clock + Wait + Sync, K: Sink + Send, G: Gate>(
 ///
 /// Where no thread can be made, the last of the calls that are joined runs first. So the reader stands last, and none of
 /// them waits for a later one.
-pub(crate) fn three<R: Threads + Clock + Wait + Sync, S: Source + Send, K: Sink + Send, G: Gate>(
+pub(crate) fn run_beside<
+    R: Threads + Clock + Wait + Sync,
+    S: Source + Send,
+    K: Sink + Send,
+    G: Gate,
+>(
     rt: &R,
     alloc: Global,
     tail: Tail<'_>,

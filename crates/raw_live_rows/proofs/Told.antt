@@ -28,7 +28,7 @@ use Rattle.raw_live.specs.Due.{due_text}
 use Rattle.raw_live.specs.Engine.{got_at, with_items}
 use Rattle.raw_live.specs.Judging.{IsIntakeOf}
 use Rattle.raw_live.proofs.Valid.{items_valid}
-use Rattle.raw_live_run.specs.declared.words.Command.TheVariants.{Feed}
+use Rattle.raw_live_run.specs.declared.arguments.Command.TheVariants.{Feed}
 use Rattle.raw_live_run.specs.Call.{Call, IsRestStatus}
 use Rattle.raw_live_run.specs.Live.{Live, SaysWords, put_by, fed_set}
 use Rattle.raw_live_run.specs.Promises.{Headline, RestStands}

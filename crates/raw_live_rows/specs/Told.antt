@@ -9,7 +9,7 @@ use Rattle.raw_rows.specs.Kernels.{AreRows, fed_rows}
 use Rattle.raw_cut.specs.Live.{IsMetFrom}
 use Rattle.raw_live.specs.Gots.{gots}
 use Rattle.raw_shell.specs.Seen.{SinkSeen}
-use Rattle.raw_live_run.specs.declared.words.Command.TheVariants.{Feed}
+use Rattle.raw_live_run.specs.declared.arguments.Command.TheVariants.{Feed}
 use Rattle.raw_live_run.specs.Call.{Call, IsRestStatus}
 use Rattle.raw_live_run.specs.Live.{Live}
 use Rattle.raw_live_run.specs.Promises.{Headline}

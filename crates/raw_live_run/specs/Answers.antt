@@ -12,10 +12,10 @@ use Rattle.raw_shell.specs.declared.ending.Ending.{Ending as ShellEnding}
 use Rattle.raw_shell.specs.declared.ending.Ending.TheVariants as ending
 use Rattle.raw_shell.specs.declared.failure.Failure.{Failure as FailureOf}
 use Rattle.raw_shell.specs.declared.failure.Failure.TheVariants.{Refused, ReadFault, WriteFault, Memory, TooLong}
-use Rattle.raw_shell.specs.declared.words.FixedText.{FixedText}
+use Rattle.raw_shell.specs.declared.arguments.FixedText.{FixedText}
 use Rattle.raw_shell.specs.Answers.{refused_line}
 use Rattle.raw_shell.specs.Answers as shell
-use Rattle.raw_shell.specs.Words as words
+use Rattle.raw_shell.specs.Arguments as words
 use Rattle.raw_live_run.specs.declared.answer.LineFlaw.{LineFlaw}
 use Rattle.raw_live_run.specs.declared.answer.LineFlaw.TheVariants.{Set, Put}
 
@@ -36,9 +36,9 @@ ended_as rest.Trapped = ending.Trapped
 ended_as rest.Limit = ending.Limit
 
 -- an answer of this program as one of any program
-abbrev pub told : Answer → shell.Answer LineFlaw
-told (Ok how) = Ok (ended_as how)
-told (Err failure) = Err failure
+abbrev pub as_program_answer : Answer → shell.Answer LineFlaw
+as_program_answer (Ok how) = Ok (ended_as how)
+as_program_answer (Err failure) = Err failure
 
 -- the status of a grid that came to rest
 abbrev pub rest_status : Ending → ℕ
@@ -46,7 +46,7 @@ rest_status how = shell.ending_status (ended_as how)
 
 -- the status of an answer
 abbrev pub status_of : Answer → ℕ
-status_of answer = shell.status_of (told answer)
+status_of answer = shell.status_of (as_program_answer answer)
 
 -- why the reading of lines stopped, as a failure
 abbrev pub failure_of : Stop → Failure
@@ -105,5 +105,5 @@ unfoldable pub version_text : List ℕ
 version_text = codes "rawlive 0.2.0\n"
 
 -- what a fixed text is
-abbrev pub text_of : FixedText → List ℕ
-text_of text = words.text_of help_text version_text text
+abbrev pub fixed_text_of : FixedText → List ℕ
+fixed_text_of text = words.fixed_text_of help_text version_text text

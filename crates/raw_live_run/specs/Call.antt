@@ -2,7 +2,7 @@
 use Rattle.std.specs.Prelude.{◌≡◌, ℕ}
 use Rattle.raw_model.specs.declared.ending.Ending.{Ending}
 use Rattle.raw_shell.specs.Call as shell
-use Rattle.raw_live_run.specs.declared.words.Command.{Command}
+use Rattle.raw_live_run.specs.declared.arguments.Command.{Command}
 use Rattle.raw_live_run.specs.Answers.{rest_status}
 
 -- a call whose words may be one of this program's commands

@@ -1,5 +1,5 @@
 -- What the contracts of the top call cite.
-pub mod Words
+pub mod Arguments
 pub mod Answers
 pub mod Call
 pub mod Beginning

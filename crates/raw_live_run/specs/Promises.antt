@@ -11,7 +11,7 @@ use Rattle.raw_live.specs.Engine.{got_at, with_items}
 use Rattle.raw_live.specs.Due.{due_text}
 use Rattle.raw_shell.specs.declared.failure.Failure.TheVariants.{Memory}
 use Rattle.raw_shell.specs.Seen.{SourceSeen, SinkSeen, ReadFails, WriteFails, Untouched, GivesTooMany, limit}
-use Rattle.raw_live_run.specs.declared.words.Command.TheVariants.{Feed}
+use Rattle.raw_live_run.specs.declared.arguments.Command.TheVariants.{Feed}
 use Rattle.raw_live_run.specs.Answers.{Answer, rest_status, status_of}
 use Rattle.raw_live_run.specs.Call.{Call, IsRestStatus}
 use Rattle.raw_live_run.specs.Live.{Live, put_by}

@@ -9,13 +9,13 @@ use Rattle.raw_live.specs.declared.live.Halt.{Halt}
 use Rattle.raw_live.specs.Judging.{IsIntakeOf}
 use Rattle.raw_live.specs.Lives.{Lives}
 use Rattle.raw_shell.specs.declared.failure.Failure.TheVariants.{Use, WriteFault, Memory}
-use Rattle.raw_shell.specs.declared.words.FixedText.{FixedText}
+use Rattle.raw_shell.specs.declared.arguments.FixedText.{FixedText}
 use Rattle.raw_shell.specs.Answers.{Said}
 use Rattle.raw_shell.specs.Seen.{SourceSeen, SinkSeen, Unread, Untouched, limit}
-use Rattle.raw_live_run.specs.declared.words.Command.{Command}
-use Rattle.raw_live_run.specs.declared.words.Command.TheVariants.{Fixed, Feed}
+use Rattle.raw_live_run.specs.declared.arguments.Command.{Command}
+use Rattle.raw_live_run.specs.declared.arguments.Command.TheVariants.{Fixed, Feed}
 use Rattle.raw_live_run.specs.declared.begin.Begun.{Begun}
-use Rattle.raw_live_run.specs.Answers.{Answer, Failure, text_of, answer_of, status_of, told, flaw_line}
+use Rattle.raw_live_run.specs.Answers.{Answer, Failure, fixed_text_of, answer_of, status_of, as_program_answer, flaw_line}
 use Rattle.raw_live_run.specs.Beginning.{Begins, StopsInHead}
 use Rattle.raw_live_run.specs.Call.{Call}
 
@@ -64,7 +64,7 @@ Feeds source out answer = EndsInHead source out answer ⊎ ReachesMark source ou
 -- a fixed text was written, and nothing was read
 pub record Shows (text : FixedText) (source : SourceSeen) (out : SinkSeen) (answer : Answer) : Type 0 where
   pub unread : Unread source
-  pub writes : Writes out.old out.new (text_of text) answer
+  pub writes : Writes out.old out.new (fixed_text_of text) answer
   pub answer_is : (answer ≡ Ok Done) ⊎ (answer ≡ Err WriteFault)
 
 -- the words are refused: neither the source nor out is touched
@@ -84,4 +84,4 @@ pub record Ended (call : Call) : Type 0 where
   pub answer : Answer
   pub status_is : call.status ≡ status_of answer
   pub serves : Serves call.words call.seen.source call.seen.out answer
-  pub said : Said flaw_line call.seen.err (told answer)
+  pub said : Said flaw_line call.seen.err (as_program_answer answer)

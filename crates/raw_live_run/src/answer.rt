@@ -1,6 +1,6 @@
 //! The answers of the program, and the line of what is wrong with a line of its input.
 ghost use Rattle.std.specs.Prelude.{◌≡◌};
-ghost use Rattle.raw_live_run.specs.Answers.{ended_as, told, flaw_line};
+ghost use Rattle.raw_live_run.specs.Answers.{ended_as, as_program_answer, flaw_line};
 
 use raw_io::{Failed, Sink};
 use raw_live_text::LineFault;
@@ -52,8 +52,8 @@ fn ended_as(ending: Ending) -> raw_shell::Ending
 }
 
 /// The answer as one of any program.
-pub fn told(answer: Answer) -> raw_shell::Answer<LineFlaw>
-    ensures { result ≡ told answer }
+pub fn as_program_answer(answer: Answer) -> raw_shell::Answer<LineFlaw>
+    ensures { result ≡ as_program_answer answer }
 {
     match answer {
         Ok(ending) => Ok(ended_as(ending)),

@@ -6,9 +6,9 @@
 #![tactic(auto)]
 
 mod answer;
+mod arguments;
 mod begin;
 mod top;
-mod words;
 
 pub use answer::LineFlaw;
 pub use top::live_main;

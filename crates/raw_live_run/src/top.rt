@@ -4,14 +4,14 @@ ghost use Rattle.raw_io.specs.Writing.{Writes};
 ghost use Rattle.raw_shell.specs.declared.failure.Failure.TheVariants.{WriteFault};
 ghost use Rattle.raw_shell.specs.Seen.{source_seen, sink_seen};
 ghost use Rattle.raw_shell.specs.Call.{call};
-ghost use Rattle.raw_live_run.specs.Words.{command_of};
-ghost use Rattle.raw_live_run.specs.Answers.{text_of, help_text, version_text, answer_of};
+ghost use Rattle.raw_live_run.specs.Arguments.{command_of};
+ghost use Rattle.raw_live_run.specs.Answers.{fixed_text_of, help_text, version_text, answer_of};
 ghost use Rattle.raw_live_run.specs.Promises.{Headline, Promises};
 ghost use Rattle.raw_live_run.specs.Serving.{IsReady, FedOn, Feeds, Serves, Ended};
 
-use crate::answer::{Answer, Failure, told};
+use crate::answer::{Answer, Failure, as_program_answer};
+use crate::arguments::{Command, command_in};
 use crate::begin::{Begun, begin, failure_of};
-use crate::words::{Command, command_in};
 use raw_io::{Sink, Source, put_all};
 use raw_live::{Engine, Halt, Runner, Tail, feed_live, intake_of, law_due, law_gots};
 use raw_live_text::law_heads;
@@ -69,7 +69,7 @@ fn version() -> &'static [u8]
 }
 
 fn words_of(text: FixedText) -> &'static [u8]
-    ensures { result.now ≡ text_of text }
+    ensures { result.now ≡ fixed_text_of text }
 {
     text.of(help(), version())
 }
@@ -134,7 +134,7 @@ fn feed<R: Threads + Clock + Wait + Sync, S: Source + Send, K: Sink + Send, G: G
 
 // Writes a fixed text.
 fn show<K: Sink>(text: FixedText, out: &mut K) -> Answer
-    ensures writes { Writes (K.sight out.old) (K.sight out.new) (text_of text) result }
+    ensures writes { Writes (K.sight out.old) (K.sight out.new) (fixed_text_of text) result }
     ensures done { IfOk result (λ ending. ending ≡ Ending.Done) }
     ensures failed { IfErr result (λ failure. failure ≡ WriteFault) }
 {
@@ -207,6 +207,6 @@ fn carry_out<R: Threads + Clock + Wait + Sync, S: Source + Send, K: Sink + Send,
     ensures { Ended (call (command_of (map string_bytes words.now))
         S.sight source.old source.new K.sight out.old out.new E.sight err.old err.new result) }
 {
-    let answer = told(serve(rt, alloc, command_in(words), source, out, gate));
+    let answer = as_program_answer(serve(rt, alloc, command_in(words), source, out, gate));
     conclude(err, answer)
 }

@@ -14,7 +14,7 @@ use Rattle.raw_live_text.specs.declared.put.Said.TheVariants.{Nothing, Word, Fau
 use Rattle.raw_live_text.specs.declared.stop.Stop.{Stop}
 use Rattle.raw_live_text.specs.declared.stop.Stop.TheVariants.{At, Memory}
 use Rattle.raw_live_text.specs.Puts.{says}
-use Rattle.raw_live_text.specs.Feeding.{Fed, open_at, faulty_at, with_said, unless_faulty, after_line, after_lines, fed, whole_lines, last_piece, BeginsItems, Handled, Stands, StandsAfter}
+use Rattle.raw_live_text.specs.Feeding.{Fed, open_at, faulty_at, with_said, unless_faulty, after_line, after_lines, fed, whole_lines, last_piece, BeginsItems, Handled, IntakeStands, StandsAfter}
 use Rattle.raw_live_text.proofs.Judging.{says_nothing}
 use Rattle.raw_live_text.proofs.Pieces.{whole_end, last_end, whole_in, last_in, whole_grows, lines_without, lines_with}
 
@@ -97,7 +97,7 @@ module _ (intake : Intake) where
       handled_of _ _ now got r (ap (with_said intake number items) (ap (says intake) (sym same) ∙ sym is)) h
 
   -- a byte that ends a line
-  pub byte_end : (bytes : List ℕ) (next : ℕ) (old new : Progress) (items now : List Item) (r : Result (Unit {0}) Stop) → next ≡ 10 → Stands intake bytes old items → new.line.items ≡ []
+  pub byte_end : (bytes : List ℕ) (next : ℕ) (old new : Progress) (items now : List Item) (r : Result (Unit {0}) Stop) → next ≡ 10 → IntakeStands intake bytes old items → new.line.items ≡ []
       → Handled (after_line intake (open_at old.number items) old.line.items) new.number now r → StandsAfter intake (bytes ++ next ∷ []) new now r
   byte_end bytes next old new items now r e s fresh h =
       let to : fed intake (whole_lines (bytes ++ next ∷ [])) ≡ after_line intake (open_at old.number items) old.line.items =
@@ -109,15 +109,15 @@ module _ (intake : Intake) where
       by_result (Err stop) h = h
 
   -- a byte in a line
-  pub byte_in : (bytes : List ℕ) (next : ℕ) (old new : Progress) (items now : List Item) → (next ≡ 10 → ⊥) → Stands intake bytes old items → new.number ≡ old.number → now ≡ items
-      → new.line.items ≡ old.line.items ++ next ∷ [] → Stands intake (bytes ++ next ∷ []) new now
+  pub byte_in : (bytes : List ℕ) (next : ℕ) (old new : Progress) (items now : List Item) → (next ≡ 10 → ⊥) → IntakeStands intake bytes old items → new.number ≡ old.number → now ≡ items
+      → new.line.items ≡ old.line.items ++ next ∷ [] → IntakeStands intake (bytes ++ next ∷ []) new now
   byte_in bytes next old new items now e s same_number same_items grown = record {
     lines = ap (fed intake) (whole_in bytes next e) ∙ s.lines ∙ ap (λ n. open_at n items) (sym same_number) ∙ ap (open_at new.number) (sym same_items);
     last = last_in bytes next e ∙ ap (λ l. l ++ next ∷ []) s.last ∙ sym grown;
   }
 
   -- want of memory at a byte
-  pub byte_memory : (bytes : List ℕ) (next : ℕ) (old new : Progress) (items : List Item) → Stands intake bytes old items → StandsAfter intake (bytes ++ next ∷ []) new items (Err Memory)
+  pub byte_memory : (bytes : List ℕ) (next : ℕ) (old new : Progress) (items : List Item) → IntakeStands intake bytes old items → StandsAfter intake (bytes ++ next ∷ []) new items (Err Memory)
   byte_memory bytes next old new items s =
       let more = whole_grows bytes (next ∷ []) in
       let same : (fed intake (whole_lines bytes)).items ≡ items = ap (λ (z : Fed). z.items) s.lines in
@@ -135,10 +135,10 @@ module _ (intake : Intake) where
       handled_of _ _ number items (Err stop) (ap (λ l. fed intake (whole_lines l)) is) (stopped_on front (drop (n + 1) piece) number items stop h)
 
   -- one byte more of a piece
-  pub goes_on : (bytes piece : List ℕ) (n : ℕ) (known : Progress) (items : List Item) → n < length piece
-      → Stands intake ((bytes ++ take n piece) ++ get_or piece n 0 ∷ []) known items → Stands intake (bytes ++ take (n + 1) piece) known items
-  goes_on bytes piece n known items within s =
-      subst (λ l. Stands intake l known items) (append_assoc bytes (take n piece) (get_or piece n 0 ∷ []) ∙ ap (λ l. bytes ++ l) (sym (take_more piece n 0 within))) s
+  pub goes_on : (bytes piece : List ℕ) (n : ℕ) (so_far : Progress) (items : List Item) → n < length piece
+      → IntakeStands intake ((bytes ++ take n piece) ++ get_or piece n 0 ∷ []) so_far items → IntakeStands intake (bytes ++ take (n + 1) piece) so_far items
+  goes_on bytes piece n so_far items within s =
+      subst (λ l. IntakeStands intake l so_far items) (append_assoc bytes (take n piece) (get_or piece n 0 ∷ []) ∙ ap (λ l. bytes ++ l) (sym (take_more piece n 0 within))) s
 
   -- what the lines put, once the last is taken as it is
   pub record Last (to whole : Fed) : Type 0 where
@@ -149,16 +149,16 @@ module _ (intake : Intake) where
   unfolding after_line
   empty_line number items line none = ap (with_said intake number items) (says_nothing intake line none)
 
-  pub at_last : (bytes : List ℕ) (known : Progress) (items : List Item) → Stands intake bytes known items
-      → Last (after_line intake (open_at known.number items) known.line.items) (fed intake (lines_of bytes))
-  at_last bytes known items s =
-      let line = known.line.items in
-      ⊎_elim {C = Last (after_line intake (open_at known.number items) line) (fed intake (lines_of bytes))}
+  pub at_last : (bytes : List ℕ) (so_far : Progress) (items : List Item) → IntakeStands intake bytes so_far items
+      → Last (after_line intake (open_at so_far.number items) so_far.line.items) (fed intake (lines_of bytes))
+  at_last bytes so_far items s =
+      let line = so_far.line.items in
+      ⊎_elim {C = Last (after_line intake (open_at so_far.number items) line) (fed intake (lines_of bytes))}
       (λ (some : 0 < length line).
-      let e = ap (fed intake) (lines_with bytes (omega (arith, ap length s.last, some))) ∙ fed_append (whole_lines bytes) (last_piece bytes ∷ []) ∙ ap (λ z. after_line intake z (last_piece bytes)) s.lines ∙ ap (after_line intake (open_at known.number items)) s.last in
+      let e = ap (fed intake) (lines_with bytes (omega (arith, ap length s.last, some))) ∙ fed_append (whole_lines bytes) (last_piece bytes ∷ []) ∙ ap (λ z. after_line intake z (last_piece bytes)) s.lines ∙ ap (after_line intake (open_at so_far.number items)) s.last in
       record { items = ap (λ (z : Fed). z.items) e; fault = ap (λ (z : Fed). z.fault) e })
       (λ none.
       let e = ap (fed intake) (lines_without bytes (omega (arith, ap length s.last, none))) ∙ s.lines in
-      let w = empty_line known.number items line (omega (arith, none)) in
+      let w = empty_line so_far.number items line (omega (arith, none)) in
       record { items = ap (λ (z : Fed). z.items) e ∙ sym (ap (λ (z : Fed). z.items) w); fault = ap (λ (z : Fed). z.fault) e ∙ sym (ap (λ (z : Fed). z.fault) w) })
       (cases_lt 0 (length line))

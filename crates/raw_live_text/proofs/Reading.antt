@@ -13,14 +13,14 @@ use Rattle.raw_live_text.specs.declared.progress.Progress.{Progress}
 use Rattle.raw_live_text.specs.declared.stop.Stop.{Stop}
 use Rattle.raw_live_text.specs.declared.stop.Stop.TheVariants.{At, Read, TooLong, Memory}
 use Rattle.raw_live_text.specs.declared.reader.TheConstants.{PIECE}
-use Rattle.raw_live_text.specs.Feeding.{Fed, open_at, after_line, fed, whole_lines, last_piece, BeginsItems, Handled, Stands, ReadAs, StopsInPiece, Reads, EndedWith, ReadsAll}
+use Rattle.raw_live_text.specs.Feeding.{Fed, open_at, after_line, fed, whole_lines, last_piece, BeginsItems, Handled, IntakeStands, ReadAs, StopsInPiece, Reads, EndedWith, ReadsAll}
 use Rattle.raw_live_text.proofs.Pieces.{whole_grows, lines_more}
 use Rattle.raw_live_text.proofs.Feeds.{begins_same, begins_over, fed_grows, handled_of, stopped_on, at_last, Last}
 
 -- where nothing was read yet
-pub begins : (intake : Intake) (known : Progress) (items : List Item) → items ≡ [] → known.number ≡ intake.line → known.line.items ≡ [] → Stands intake [] known items
+pub begins : (intake : Intake) (so_far : Progress) (items : List Item) → items ≡ [] → so_far.number ≡ intake.line → so_far.line.items ≡ [] → IntakeStands intake [] so_far items
 unfolding fed whole_lines last_piece
-begins intake known items none number line = record { lines = ap (λ n. open_at n []) (sym number) ∙ ap (open_at known.number) (sym none); last = sym line }
+begins intake so_far items none number line = record { lines = ap (λ n. open_at n []) (sym number) ∙ ap (open_at so_far.number) (sym none); last = sym line }
 
 module _ (intake : Intake) (rest : List ℕ) (most : ℕ) (old new : SourceSight) where
   whole_begin : (bytes : List ℕ) → BeginsItems (fed intake (whole_lines bytes)).items (fed intake (lines_of bytes)).items
@@ -45,24 +45,24 @@ module _ (intake : Intake) (rest : List ℕ) (most : ℕ) (old new : SourceSight
   }
 
   -- behind lines without a fault nothing more was read
-  nothing_more : (bytes : List ℕ) (known : Progress) (items : List Item) → Stands intake (rest ++ bytes) known items → StopsInPiece intake rest bytes
-  nothing_more bytes known items s = record { front = bytes; piece = []; is = sym (append-nil bytes); short = omega arith; faultless = ap (λ (z : Fed). z.fault) s.lines }
+  nothing_more : (bytes : List ℕ) (so_far : Progress) (items : List Item) → IntakeStands intake (rest ++ bytes) so_far items → StopsInPiece intake rest bytes
+  nothing_more bytes so_far items s = record { front = bytes; piece = []; is = sym (append-nil bytes); short = omega arith; faultless = ap (λ (z : Fed). z.fault) s.lines }
 
   -- a call failed, and gave nothing
-  pub fails : (left : Option (List ℕ)) (bytes : List ℕ) (known : Progress) (items : List Item) → Consumes old.left left bytes → Keeps left new.left → new.given ≡ old.given + length bytes → Rose old.faults new.faults
-      → length bytes ≤ most → Stands intake (rest ++ bytes) known items → Reads old new intake rest most items (Err Read)
-  fails left bytes known items taken kept counted rose few s = record {
+  pub fails : (left : Option (List ℕ)) (bytes : List ℕ) (so_far : Progress) (items : List Item) → Consumes old.left left bytes → Keeps left new.left → new.given ≡ old.given + length bytes → Rose old.faults new.faults
+      → length bytes ≤ most → IntakeStands intake (rest ++ bytes) so_far items → Reads old new intake rest most items (Err Read)
+  fails left bytes so_far items taken kept counted rose few s = record {
     bytes = bytes;
     taken = Consumes-kept _ _ _ _ taken kept;
     counted = counted;
-    prompt = inr (nothing_more bytes known items s);
+    prompt = inr (nothing_more bytes so_far items s);
     bounded = omega (arith, few);
     meant = (few, rose, (ap (λ (z : Fed). z.fault) s.lines, ap (λ (z : Fed). z.items) s.lines));
   }
 
   module _ (left : Option (List ℕ)) (buf : List ℕ) (given within : ℕ) (bytes : List ℕ) (taken : Consumes old.left left bytes) (more : Consumes left new.left (take given buf)) (room : given ≤ length buf)
       (short : given ≤ PIECE) (within_most : length bytes + given ≤ most + 1) (counted : new.given ≡ old.given + (length bytes + given)) (fits : within ≤ given)
-      (before : Progress) (put : List Item) (stood : Stands intake (rest ++ bytes) before put) where
+      (before : Progress) (put : List Item) (stood : IntakeStands intake (rest ++ bytes) before put) where
     cut : take given buf ≡ take within buf ++ drop within (take given buf)
     cut = sym (take-append-drop within (take given buf)) ∙ ap (λ l. l ++ drop within (take given buf)) (take-take within given buf fits)
 
@@ -94,9 +94,9 @@ module _ (intake : Intake) (rest : List ℕ) (most : ℕ) (old new : SourceSight
           meant = stops_as (bytes ++ take given buf) number items stop (handled_of intake _ _ number items (Err stop) (ap (λ l. fed intake (whole_lines l)) is) (stopped_on intake ((rest ++ bytes) ++ take within buf) (drop within (take given buf)) number items stop h));
         }
 
-    pub too_long : (known : Progress) (items : List Item) → length bytes + within ≡ most → length bytes + given ≡ most + 1 → Stands intake ((rest ++ bytes) ++ take within buf) known items
+    pub too_long : (so_far : Progress) (items : List Item) → length bytes + within ≡ most → length bytes + given ≡ most + 1 → IntakeStands intake ((rest ++ bytes) ++ take within buf) so_far items
         → Reads old new intake rest most items (Err TooLong)
-    too_long known items full over s =
+    too_long so_far items full over s =
         let front : take most (bytes ++ take given buf) ≡ bytes ++ take within buf =
         ap (λ n. take n (bytes ++ take given buf)) (sym full) ∙ take-append-add bytes (take given buf) within ∙ ap (λ l. bytes ++ l) (take-take within given buf fits) in
         let is = ap (λ l. fed intake (whole_lines l)) (ap (λ l. rest ++ l) front ∙ sym (append_assoc rest bytes (take within buf))) ∙ s.lines in record {
@@ -109,24 +109,24 @@ module _ (intake : Intake) (rest : List ℕ) (most : ℕ) (old new : SourceSight
         }
 
   -- the last line, once the source is at its end
-  finish_as : (bytes : List ℕ) (known : Progress) (items : List Item) (number : ℕ) (now : List Item) (r : Result (Unit {0}) Stop) → IsAtEnd new.left → length bytes ≤ most
-      → Last intake (after_line intake (open_at known.number items) known.line.items) (fed intake (lines_of (rest ++ bytes)))
-      → Handled (after_line intake (open_at known.number items) known.line.items) number now r → ReadAs old new intake rest most bytes now r
-  finish_as bytes known items number now (Ok x) end few l h = (end, few, (l.fault ∙ ap (λ (z : Fed). z.fault) h, l.items ∙ ap (λ (z : Fed). z.items) h))
-  finish_as bytes known items number now (Err (At line kind)) end few l h = inr (end, l.fault ∙ h.0, l.items ∙ h.1)
-  finish_as bytes known items number now (Err Memory) end few l h = record { rest = h.rest; is = l.items ∙ h.is }
-  finish_as bytes known items number now _ end few l h = absurd h
+  finish_as : (bytes : List ℕ) (so_far : Progress) (items : List Item) (number : ℕ) (now : List Item) (r : Result (Unit {0}) Stop) → IsAtEnd new.left → length bytes ≤ most
+      → Last intake (after_line intake (open_at so_far.number items) so_far.line.items) (fed intake (lines_of (rest ++ bytes)))
+      → Handled (after_line intake (open_at so_far.number items) so_far.line.items) number now r → ReadAs old new intake rest most bytes now r
+  finish_as bytes so_far items number now (Ok x) end few l h = (end, few, (l.fault ∙ ap (λ (z : Fed). z.fault) h, l.items ∙ ap (λ (z : Fed). z.items) h))
+  finish_as bytes so_far items number now (Err (At line kind)) end few l h = inr (end, l.fault ∙ h.0, l.items ∙ h.1)
+  finish_as bytes so_far items number now (Err Memory) end few l h = record { rest = h.rest; is = l.items ∙ h.is }
+  finish_as bytes so_far items number now _ end few l h = absurd h
 
-  pub finishes : (left : Option (List ℕ)) (bytes : List ℕ) (known : Progress) (items : List Item) (number : ℕ) (now : List Item) (r : Result (Unit {0}) Stop)
-      → Consumes old.left left bytes → Consumes left new.left [] → new.given ≡ old.given + length bytes → IsAtEnd new.left → length bytes ≤ most → Stands intake (rest ++ bytes) known items
-      → Handled (after_line intake (open_at known.number items) known.line.items) number now r → Reads old new intake rest most now r
-  finishes left bytes known items number now r taken none counted end few s h = record {
+  pub finishes : (left : Option (List ℕ)) (bytes : List ℕ) (so_far : Progress) (items : List Item) (number : ℕ) (now : List Item) (r : Result (Unit {0}) Stop)
+      → Consumes old.left left bytes → Consumes left new.left [] → new.given ≡ old.given + length bytes → IsAtEnd new.left → length bytes ≤ most → IntakeStands intake (rest ++ bytes) so_far items
+      → Handled (after_line intake (open_at so_far.number items) so_far.line.items) number now r → Reads old new intake rest most now r
+  finishes left bytes so_far items number now r taken none counted end few s h = record {
     bytes = bytes;
     taken = subst (Consumes old.left new.left) (append-nil bytes) (Consumes-trans _ _ _ _ _ taken none);
     counted = counted;
-    prompt = inr (nothing_more bytes known items s);
+    prompt = inr (nothing_more bytes so_far items s);
     bounded = omega (arith, few);
-    meant = finish_as bytes known items number now r end few (at_last intake (rest ++ bytes) known items s) h;
+    meant = finish_as bytes so_far items number now r end few (at_last intake (rest ++ bytes) so_far items s) h;
   }
 
   front_begins : (bytes : List ℕ) → BeginsItems (fed intake (whole_lines (rest ++ take most bytes))).items (fed intake (whole_lines (rest ++ bytes))).items

@@ -94,10 +94,10 @@ Handled to number items (Err Memory) = BeginsItems items to.items
 Handled to number items _ = ⊥
 
 -- the words that were handed on are counted, there is room for them, and so many line numbers more are there
-pub record IsCounted (intake : Intake) (known : Progress) (items : List Item) (lines : ℕ) : Type 0 where
-  pub words : known.words ≡ length items
-  pub room : known.words ≤ intake.room
-  pub number : known.number + lines < 2 ^ 32
+pub record IsCounted (intake : Intake) (so_far : Progress) (items : List Item) (lines : ℕ) : Type 0 where
+  pub words : so_far.words ≡ length items
+  pub room : so_far.words ≤ intake.room
+  pub number : so_far.number + lines < 2 ^ 32
 
 -- the same behind bytes that end at most so many lines
 pub record IsCountedAfter (intake : Intake) (old new : Progress) (items : List Item) (lines : ℕ) : Type 0 where
@@ -106,22 +106,22 @@ pub record IsCountedAfter (intake : Intake) (old new : Progress) (items : List I
   pub number : new.number ≤ old.number + lines
 
 -- what is known and what was handed on behind these bytes
-pub record Stands (intake : Intake) (bytes : List ℕ) (known : Progress) (items : List Item) : Type 0 where
-  pub lines : fed intake (whole_lines bytes) ≡ open_at known.number items
-  pub last : last_piece bytes ≡ known.line.items
+pub record IntakeStands (intake : Intake) (bytes : List ℕ) (so_far : Progress) (items : List Item) : Type 0 where
+  pub lines : fed intake (whole_lines bytes) ≡ open_at so_far.number items
+  pub last : last_piece bytes ≡ so_far.line.items
 
 abbrev pub StandsAfter : Intake → List ℕ → Progress → List Item → Result (Unit {0}) Stop → Type 0
-StandsAfter intake bytes known items (Ok x) = Stands intake bytes known items
-StandsAfter intake bytes known items (Err stop) = Handled (fed intake (whole_lines bytes)) known.number items (Err stop)
+StandsAfter intake bytes so_far items (Ok x) = IntakeStands intake bytes so_far items
+StandsAfter intake bytes so_far items (Err stop) = Handled (fed intake (whole_lines bytes)) so_far.number items (Err stop)
 
 -- the source gave so many bytes behind `rest`, and the words of all lines that are whole with them were put
-pub record IsPutSoFar (intake : Intake) (rest : List ℕ) (now : SourceSight) (count : ℕ) (known : Progress) (items : List Item) : Type 0 where
+pub record IsPutSoFar (intake : Intake) (rest : List ℕ) (now : SourceSight) (count : ℕ) (so_far : Progress) (items : List Item) : Type 0 where
   pub first : SourceSight
   pub bytes : List ℕ
   pub taken : Consumes first.left now.left bytes
   pub counted : now.given ≡ first.given + count
   pub many : length bytes ≡ count
-  pub stands : Stands intake (rest ++ bytes) known items
+  pub stands : IntakeStands intake (rest ++ bytes) so_far items
 
 -- no line has a fault, and the items are the words of the lines
 abbrev pub AreWords : Fed → List Item → Type 0

@@ -1,7 +1,7 @@
 //! One line more of those behind `live`, one byte more and one piece more.
 ghost use Rattle.std.specs.Prelude.{◌≡◌, ℕ, ◌+◌, ◌≤◌, List, [], ◌∷◌, ◌++◌, length};
 ghost use Rattle.raw_text.specs.declared.limits.TheConstants.{MAX_TEXT};
-ghost use Rattle.raw_live_text.specs.Feeding.{open_at, with_said, after_line, Handled, IsCounted, IsCountedAfter, Stands, StandsAfter};
+ghost use Rattle.raw_live_text.specs.Feeding.{open_at, with_said, after_line, Handled, IsCounted, IsCountedAfter, IntakeStands, StandsAfter};
 
 use crate::fault::LineFault;
 use crate::intake::Intake;
@@ -19,37 +19,37 @@ fn hand_on_said<R: Wait>(
     intake: &Intake,
     said: Said,
     to: &mut Sender<'_>,
-    known: &mut Progress,
+    so_far: &mut Progress,
 ) -> Result<(), Stop>
-    requires counted { IsCounted intake.now known.old to.old.items 1 }
+    requires counted { IsCounted intake.now so_far.old to.old.items 1 }
     ensures queue { to.new.queue ≡ to.old.queue }
-    ensures counted { IsCountedAfter intake.now known.old known.new to.new.items 1 }
-    ensures line { known.new.line ≡ known.old.line }
-    ensures handled { Handled (with_said intake.now known.old.number to.old.items said)
-        known.new.number to.new.items result }
+    ensures counted { IsCountedAfter intake.now so_far.old so_far.new to.new.items 1 }
+    ensures line { so_far.new.line ≡ so_far.old.line }
+    ensures handled { Handled (with_said intake.now so_far.old.number to.old.items said)
+        so_far.new.number to.new.items result }
 {
     match said {
         Said::Nothing => {}
         Said::Fault(kind) => {
             return Err(Stop::At {
-                line: known.number,
+                line: so_far.number,
                 kind,
             });
         }
         Said::Word { port, word } => {
-            if known.words == intake.room {
+            if so_far.words == intake.room {
                 return Err(Stop::At {
-                    line: known.number,
+                    line: so_far.number,
                     kind: LineFault::OverLimit,
                 });
             }
             if to.put(rt, Item::Word { port, word }).is_err() {
                 return Err(Stop::Memory);
             }
-            known.words += 1;
+            so_far.words += 1;
         }
     }
-    known.number += 1;
+    so_far.number += 1;
     Ok(())
 }
 
@@ -59,20 +59,20 @@ pub(crate) fn finish_line<R: Wait>(
     alloc: Global,
     intake: &Intake,
     to: &mut Sender<'_>,
-    known: &mut Progress,
+    so_far: &mut Progress,
 ) -> Result<(), Stop>
-    requires counted { IsCounted intake.now known.old to.old.items 1 }
-    requires short { length known.old.line.items ≤ MAX_TEXT }
+    requires counted { IsCounted intake.now so_far.old to.old.items 1 }
+    requires short { length so_far.old.line.items ≤ MAX_TEXT }
     ensures queue { to.new.queue ≡ to.old.queue }
-    ensures counted { IsCountedAfter intake.now known.old known.new to.new.items 1 }
-    ensures line { known.new.line.items ≡ [] }
+    ensures counted { IsCountedAfter intake.now so_far.old so_far.new to.new.items 1 }
+    ensures line { so_far.new.line.items ≡ [] }
     ensures handled { Handled
-        (after_line intake.now (open_at known.old.number to.old.items) known.old.line.items)
-        known.new.number to.new.items result }
+        (after_line intake.now (open_at so_far.old.number to.old.items) so_far.old.line.items)
+        so_far.new.number to.new.items result }
 {
-    let line = mem::replace(&mut known.line, Vec::new(alloc));
+    let line = mem::replace(&mut so_far.line, Vec::new(alloc));
     match judge(alloc, intake, line) {
-        Ok(said) => hand_on_said(rt, intake, said, to, known),
+        Ok(said) => hand_on_said(rt, intake, said, to, so_far),
         Err(AllocError) => Err(Stop::Memory),
     }
 }
@@ -84,23 +84,23 @@ fn hand_on_byte<R: Wait>(
     intake: &Intake,
     next: u8,
     to: &mut Sender<'_>,
-    known: &mut Progress,
+    so_far: &mut Progress,
 ) -> Result<(), Stop>
-    requires counted { IsCounted intake.now known.old to.old.items 1 }
-    requires short { length known.old.line.items + 1 ≤ MAX_TEXT }
+    requires counted { IsCounted intake.now so_far.old to.old.items 1 }
+    requires short { length so_far.old.line.items + 1 ≤ MAX_TEXT }
     ensures queue { to.new.queue ≡ to.old.queue }
-    ensures counted { IsCountedAfter intake.now known.old known.new to.new.items 1 }
-    ensures short { length known.new.line.items ≤ length known.old.line.items + 1 }
-    ensures handled { (bytes : List ℕ) → Stands intake.now bytes known.old to.old.items →
-        StandsAfter intake.now (bytes ++ next ∷ []) known.new to.new.items result }
+    ensures counted { IsCountedAfter intake.now so_far.old so_far.new to.new.items 1 }
+    ensures short { length so_far.new.line.items ≤ length so_far.old.line.items + 1 }
+    ensures handled { (bytes : List ℕ) → IntakeStands intake.now bytes so_far.old to.old.items →
+        StandsAfter intake.now (bytes ++ next ∷ []) so_far.new to.new.items result }
 {
     if next == b'\n' {
-        return finish_line(rt, alloc, intake, to, known);
+        return finish_line(rt, alloc, intake, to, so_far);
     }
-    if known.line.reserve(1).is_err() {
+    if so_far.line.reserve(1).is_err() {
         return Err(Stop::Memory);
     }
-    known.line.push_reserved(next);
+    so_far.line.push_reserved(next);
     Ok(())
 }
 
@@ -111,18 +111,18 @@ pub(crate) fn hand_on<R: Wait>(
     intake: &Intake,
     piece: &[u8],
     to: &mut Sender<'_>,
-    known: &mut Progress,
+    so_far: &mut Progress,
 ) -> Result<(), Stop>
-    requires counted { IsCounted intake.now known.old to.old.items (length piece.now) }
-    requires short { length known.old.line.items + length piece.now ≤ MAX_TEXT }
+    requires counted { IsCounted intake.now so_far.old to.old.items (length piece.now) }
+    requires short { length so_far.old.line.items + length piece.now ≤ MAX_TEXT }
     ensures queue { to.new.queue ≡ to.old.queue }
-    ensures counted { IsCountedAfter intake.now known.old known.new to.new.items (length piece.now) }
-    ensures short { length known.new.line.items ≤ length known.old.line.items + length piece.now }
-    ensures handled { (bytes : List ℕ) → Stands intake.now bytes known.old to.old.items →
-        StandsAfter intake.now (bytes ++ piece.now) known.new to.new.items result }
+    ensures counted { IsCountedAfter intake.now so_far.old so_far.new to.new.items (length piece.now) }
+    ensures short { length so_far.new.line.items ≤ length so_far.old.line.items + length piece.now }
+    ensures handled { (bytes : List ℕ) → IntakeStands intake.now bytes so_far.old to.old.items →
+        StandsAfter intake.now (bytes ++ piece.now) so_far.new to.new.items result }
 {
     for next in piece {
-        hand_on_byte(rt, alloc, intake, *next, to, known)?;
+        hand_on_byte(rt, alloc, intake, *next, to, so_far)?;
     }
     Ok(())
 }

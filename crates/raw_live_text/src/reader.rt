@@ -30,11 +30,11 @@ fn ask<S: Source>(
     count: usize,
     rest: &[u8],
     intake: &Intake,
-    known: &Progress,
+    so_far: &Progress,
     to: &Sender<'_>,
 ) -> Result<usize, Failed>
     requires some { 0 < length part.old }
-    requires put { IsPutSoFar intake.now rest.now (S.sight source.old) count known.now to.now.items }
+    requires put { IsPutSoFar intake.now rest.now (S.sight source.old) count so_far.now to.now.items }
     ensures bound { ReadsAtMost result part.new }
     ensures bytes { ReadConsumes (S.sight source.old).left (S.sight source.new).left result part.new }
     ensures counted { CountsGiven (S.sight source.old).given (S.sight source.new).given result }
@@ -61,24 +61,24 @@ fn read_lines<R: Wait, S: Source>(
         intake.now rest.now most to.new.items result }
     ensures count { (S.sight source.old).faults ≤ (S.sight source.new).faults }
 {
-    let mut known = Progress {
+    let mut so_far = Progress {
         line: Vec::new(alloc),
         number: intake.line,
         words: 0,
     };
-    hand_on(rt, alloc, intake, rest, to, &mut known)?;
+    hand_on(rt, alloc, intake, rest, to, &mut so_far)?;
     let mut count = 0;
     let mut buf = [0u8; PIECE];
     loop {
         let want = (most + 1 - count).min(PIECE);
         let part = &mut buf[..want];
-        match ask(source, part, count, rest, intake, &known, to) {
+        match ask(source, part, count, rest, intake, &so_far, to) {
             Err(Failed) => return Err(Stop::Read),
-            Ok(0) => return finish_line(rt, alloc, intake, to, &mut known),
+            Ok(0) => return finish_line(rt, alloc, intake, to, &mut so_far),
             Ok(given) => {
                 let within = given.min(most - count);
                 let piece = &part[..within];
-                hand_on(rt, alloc, intake, piece, to, &mut known)?;
+                hand_on(rt, alloc, intake, piece, to, &mut so_far)?;
                 if within < given {
                     return Err(Stop::TooLong);
                 }

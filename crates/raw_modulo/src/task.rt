@@ -4,7 +4,7 @@ use raw_body::{Body, Components, Operand, Order, Origin, Site};
 use raw_frame::Table;
 use raw_graph as graph;
 use raw_grid::Dir;
-use raw_selection::{Step, constant_of, step_of};
+use raw_selection::{Operation, constant_of, step_of};
 use std::alloc::{AllocError, Global};
 
 /// A value at a tile at which it is made or used.
@@ -85,7 +85,7 @@ fn placed(operand: Operand, place: usize) -> graph::Operand {
 }
 
 /// The instruction of a value, where its operands are called 0 and 1.
-pub fn step(origin: Origin) -> Option<Step> {
+pub fn step(origin: Origin) -> Option<Operation> {
     match origin {
         Origin::Input(_) => None,
         Origin::Made { op, a, b } => step_of(graph::Origin::Made {

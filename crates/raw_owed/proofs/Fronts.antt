@@ -4,7 +4,7 @@ use Rattle.raw_io.specs.Writing.{AppendsProperFront, grown}
 use Rattle.raw_shell.specs.declared.ending.Ending.{Ending}
 use Rattle.raw_shell.specs.Seen.{SinkSeen, WriteFails}
 use Rattle.raw_shell.proofs.Fronts.{front_put}
-use Rattle.raw_command_line.specs.declared.words.Command.{Command}
+use Rattle.raw_command_line.specs.declared.arguments.Command.{Command}
 use Rattle.raw_owed.specs.Owed.{Owes, IsDue}
 use Rattle.raw_owed.specs.Obeyed.{PutsFront}
 

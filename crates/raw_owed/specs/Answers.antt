@@ -1,8 +1,8 @@
 -- How a call of the program ended, its line on err, and the texts that name the program.
 use Rattle.std.specs.Prelude.{ℕ, List, ◌++◌, codes}
-use Rattle.raw_shell.specs.declared.words.FixedText.{FixedText}
+use Rattle.raw_shell.specs.declared.arguments.FixedText.{FixedText}
 use Rattle.raw_shell.specs.Answers as shell
-use Rattle.raw_shell.specs.Words as words
+use Rattle.raw_shell.specs.Arguments as words
 use Rattle.raw_inputs.specs.declared.flaw.InputFlaw.{InputFlaw}
 use Rattle.raw_inputs.specs.Flaws.{Failure, flaw_line}
 
@@ -79,5 +79,5 @@ unfoldable pub version_text : List ℕ
 version_text = codes "rawgrid 0.2.0\n"
 
 -- what a fixed text is
-abbrev pub text_of : FixedText → List ℕ
-text_of text = words.text_of help_text version_text text
+abbrev pub fixed_text_of : FixedText → List ℕ
+fixed_text_of text = words.fixed_text_of help_text version_text text

@@ -1,6 +1,6 @@
 -- What a command may answer for its input, and what it then did to out.
 use Rattle.std.specs.Prelude.{ℕ, ◌<◌, ◌≤◌, List, length, take, Ok, Err}
-use Rattle.raw_command_line.specs.declared.words.Command.{Command}
+use Rattle.raw_command_line.specs.declared.arguments.Command.{Command}
 use Rattle.raw_shell.specs.declared.ending.Ending.{Ending}
 use Rattle.raw_inputs.specs.declared.flaw.Refusal.{Refusal}
 use Rattle.raw_shell.specs.declared.failure.Failure.TheVariants.{Refused, WriteFault, Memory}

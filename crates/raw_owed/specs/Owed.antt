@@ -31,29 +31,29 @@ use Rattle.raw_generated.specs.Summary.{summary}
 use Rattle.raw_set_text.specs.Listing.{listing}
 use Rattle.raw_set_text.specs.Texts.{token_lines}
 use Rattle.raw_image.specs.Image.{image}
-use Rattle.raw_command_line.specs.declared.words.SetForm.{SetForm}
+use Rattle.raw_command_line.specs.declared.arguments.SetForm.{SetForm}
 use Rattle.raw_inputs.specs.declared.form.InputForm.{InputForm}
 use Rattle.raw_inputs.specs.declared.form.InputForm.TheVariants as form
-use Rattle.raw_shell.specs.declared.words.FixedText.{FixedText}
-use Rattle.raw_command_line.specs.declared.words.StateOutput.TheVariants.{Report, Picture}
-use Rattle.raw_command_line.specs.declared.words.RunOutput.{RunOutput}
-use Rattle.raw_command_line.specs.declared.words.RunOutput.TheVariants.{State, History}
-use Rattle.raw_command_line.specs.declared.words.CyclesOptions.{CyclesOptions}
-use Rattle.raw_command_line.specs.declared.words.TraceOutput.{TraceOutput}
-use Rattle.raw_command_line.specs.declared.words.TraceOutput.TheVariants.{Lines, Page}
-use Rattle.raw_command_line.specs.declared.words.TraceOptions.{TraceOptions}
+use Rattle.raw_shell.specs.declared.arguments.FixedText.{FixedText}
+use Rattle.raw_command_line.specs.declared.arguments.StateOutput.TheVariants.{Report, Picture}
+use Rattle.raw_command_line.specs.declared.arguments.RunOutput.{RunOutput}
+use Rattle.raw_command_line.specs.declared.arguments.RunOutput.TheVariants.{State, History}
+use Rattle.raw_command_line.specs.declared.arguments.CyclesOptions.{CyclesOptions}
+use Rattle.raw_command_line.specs.declared.arguments.TraceOutput.{TraceOutput}
+use Rattle.raw_command_line.specs.declared.arguments.TraceOutput.TheVariants.{Lines, Page}
+use Rattle.raw_command_line.specs.declared.arguments.TraceOptions.{TraceOptions}
 use Rattle.raw_owed.specs.declared.limits.TheConstants.{DEFAULT_TRACE_CYCLES}
-use Rattle.raw_command_line.specs.declared.words.FlowSet.TheVariants.{Compiled, Scheduled, Endless}
-use Rattle.raw_command_line.specs.declared.words.AloneCommand.TheVariants.{Fixed, Work}
-use Rattle.raw_command_line.specs.declared.words.ReadingCommand.{ReadingCommand}
-use Rattle.raw_command_line.specs.declared.words.ReadingCommand.TheVariants as reading
-use Rattle.raw_command_line.specs.declared.words.Command.{Command}
-use Rattle.raw_command_line.specs.declared.words.Command.TheVariants.{Alone, Reads}
+use Rattle.raw_command_line.specs.declared.arguments.FlowSet.TheVariants.{Compiled, Scheduled, Endless}
+use Rattle.raw_command_line.specs.declared.arguments.AloneCommand.TheVariants.{Fixed, Work}
+use Rattle.raw_command_line.specs.declared.arguments.ReadingCommand.{ReadingCommand}
+use Rattle.raw_command_line.specs.declared.arguments.ReadingCommand.TheVariants as reading
+use Rattle.raw_command_line.specs.declared.arguments.Command.{Command}
+use Rattle.raw_command_line.specs.declared.arguments.Command.TheVariants.{Alone, Reads}
 use Rattle.raw_shell.specs.declared.ending.Ending.{Ending}
 use Rattle.raw_shell.specs.declared.ending.Ending.TheVariants.{Done}
 use Rattle.raw_inputs.specs.declared.flaw.Refusal.{Refusal}
 use Rattle.raw_shell.specs.Answers.{ending_of}
-use Rattle.raw_owed.specs.Answers.{text_of}
+use Rattle.raw_owed.specs.Answers.{fixed_text_of}
 use Rattle.raw_owed.specs.EachRun.{StandsForAll}
 use Rattle.raw_model.specs.Start.{start}
 use Rattle.raw_steps.specs.declared.checking.CheckAnswer.{CheckAnswer}
@@ -70,7 +70,7 @@ use Rattle.raw_stream_text.specs.Texts.{StreamMeaning}
 use Rattle.std.specs.Borrow.{Bor}
 use Rattle.raw_text.specs.declared.text.Text.{Text}
 use Rattle.raw_text.specs.Text.{text_lines}
-use Rattle.raw_command_line.specs.declared.words.SetForm.TheVariants as set_form
+use Rattle.raw_command_line.specs.declared.arguments.SetForm.TheVariants as set_form
 use Rattle.raw_shell.specs.Seen.{limit}
 
 -- how the input of a command is written
@@ -244,7 +244,7 @@ pub record IsWorkOutput (n : ℕ) (output : List ℕ) (ending : Ending) : Type 0
 
 -- `--help` and `--version`: the text
 pub record IsTextOutput (text : FixedText) (output : List ℕ) (ending : Ending) : Type 0 where
-  pub written : output ≡ text_of text
+  pub written : output ≡ fixed_text_of text
   pub ended : ending ≡ Done
 
 -- a command's output for an input, and how it ended: `asm` owes the image, in version 2, of the set that its text means, and

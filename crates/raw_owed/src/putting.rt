@@ -1,7 +1,7 @@
 //! How a command ends that has put its output.
 ghost use Rattle.std.specs.Prelude.{ℕ, List};
 ghost use Rattle.raw_io.specs.Writing.{Writes};
-ghost use Rattle.raw_command_line.specs.declared.words.Command.{Command};
+ghost use Rattle.raw_command_line.specs.declared.arguments.Command.{Command};
 ghost use Rattle.raw_owed.specs.Owed.{Owes};
 ghost use Rattle.raw_shell.specs.Seen.{SinkSeen, sink_seen};
 ghost use Rattle.raw_owed.specs.Obeyed.{Obeyed};

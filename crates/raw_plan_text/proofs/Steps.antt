@@ -15,7 +15,7 @@ use Rattle.raw_plan_text.specs.Forms.{Sent, Entry, is_grid, is_send, grid_entry,
 use Rattle.raw_plan_text.specs.Forms.Entry.{Grid, Send}
 use Rattle.raw_plan_text.specs.Faults.{grid_of, is_inside, targets_in, is_size, is_off_grid, form_fault, entry_fault, line_fault}
 use Rattle.raw_plan_text.specs.Meaning.{entries_of, haul_of, haul_in, word_in, plan_of, fault_at, end_fault, place_fault}
-use Rattle.raw_plan_text.specs.Answers.{Stands, each_once}
+use Rattle.raw_plan_text.specs.Answers.{PlanStands, each_once}
 
 -- the first word of a line decides how it reads
 pub grid_line : (line : List (List ℕ)) → is_grid line ≡ true → line_entry line ≡ grid_entry (drop 1 line)
@@ -132,7 +132,7 @@ grid_same plan [] is = ap (λ p. without_ports p.cols p.rows) is
 grid_same plan (Grid columns rows ∷ entries) is = ap (λ p. without_ports p.cols p.rows) is
 grid_same plan (Send sent ∷ entries) is = ap (λ p. without_ports p.cols p.rows) is
 
-pub stands_first : (plan : HaulPlan) (columns rows : ℕ) (o : Option Entry) → o ≡ Some (Grid columns rows) → plan ≡ record { cols = columns; rows = rows; hauls = []; words = [] } → Stands (Some plan) (cons_option o [])
+pub stands_first : (plan : HaulPlan) (columns rows : ℕ) (o : Option Entry) → o ≡ Some (Grid columns rows) → plan ≡ record { cols = columns; rows = rows; hauls = []; words = [] } → PlanStands (Some plan) (cons_option o [])
 unfolding plan_of
 stands_first plan columns rows o is plan_is = rw is (omega arith, plan_is)
 
@@ -141,8 +141,8 @@ grid_kept [] more l = absurd (omega arith)
 grid_kept (Grid columns rows ∷ entries) more l = refl
 grid_kept (Send sent ∷ entries) more l = refl
 
-pub stands_more : (plan after : HaulPlan) (entries : List Entry) (sent : Sent) (grid : Topology) → grid ≡ grid_of entries → Stands (Some plan) entries
-    → after ≡ record plan { hauls = plan.hauls ++ haul_of grid sent ∷ []; words = plan.words ++ sent.word ∷ [] } → Stands (Some after) (entries ++ Send sent ∷ [])
+pub stands_more : (plan after : HaulPlan) (entries : List Entry) (sent : Sent) (grid : Topology) → grid ≡ grid_of entries → PlanStands (Some plan) entries
+    → after ≡ record plan { hauls = plan.hauls ++ haul_of grid sent ∷ []; words = plan.words ++ sent.word ∷ [] } → PlanStands (Some after) (entries ++ Send sent ∷ [])
 unfolding plan_of
 stands_more plan after entries sent grid same stands is =
     let kept = grid_kept entries (Send sent ∷ []) stands.0 in

@@ -11,7 +11,7 @@ use Rattle.raw_plan_text.specs.Plans.{HaulPlan}
 use Rattle.raw_plan_text.specs.Forms.{line_entry}
 use Rattle.raw_plan_text.specs.Faults.{grid_of}
 use Rattle.raw_plan_text.specs.Meaning.{entries_of, end_fault, haul_in, plan_of, place_fault, IsMeaning, IsCause}
-use Rattle.raw_plan_text.specs.Answers.{Names, Stands}
+use Rattle.raw_plan_text.specs.Answers.{Names, PlanStands}
 use Rattle.raw_plan_text.proofs.Steps.{fault_at_end}
 
 shorter : {Y : Type 0} (o : Option Y) (ys : List Y) (n : ℕ) → length ys ≤ n → length (cons_option o ys) ≤ n + 1
@@ -27,7 +27,7 @@ module _ (lines : List (List (List ℕ))) where
   line_cause k (At line kind) l before names = (k, omega (arith, names.0), record { within = omega arith; here = names.1; before = before })
   line_cause k Memory l before names = tt
 
-  pub all_read : (plan : HaulPlan) → AreFaultless (place_fault lines) (length lines) → Stands (Some plan) (entries_of lines) → IsMeaning lines plan
+  pub all_read : (plan : HaulPlan) → AreFaultless (place_fault lines) (length lines) → PlanStands (Some plan) (entries_of lines) → IsMeaning lines plan
   unfolding end_fault
   all_read plan faultless stands =
       let ended : end_fault lines ≡ None = rw (lt-ltb 0 (length (entries_of lines)) stands.0) refl in

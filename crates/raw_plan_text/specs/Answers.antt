@@ -19,9 +19,9 @@ Answers (Ok done) line fault = fault ≡ None
 Answers (Err refusal) line fault = Names refusal line fault
 
 -- what is made of entries: nothing of none, and else the plan that they declare
-abbrev pub Stands : Option HaulPlan → List Entry → Type 0
-Stands None entries = entries ≡ []
-Stands (Some plan) entries = (0 < length entries) × (plan ≡ plan_of entries)
+abbrev pub PlanStands : Option HaulPlan → List Entry → Type 0
+PlanStands None entries = entries ≡ []
+PlanStands (Some plan) entries = (0 < length entries) × (plan ≡ plan_of entries)
 
 -- these, unless one stands twice
 abbrev pub each_once : List ℕ → Option (List ℕ)

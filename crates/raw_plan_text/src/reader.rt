@@ -9,7 +9,7 @@ ghost use Rattle.raw_plan_text.specs.Forms.{Entry, grid_entry};
 ghost use Rattle.raw_plan_text.specs.Forms.Entry.{Send as SendEntry};
 ghost use Rattle.raw_plan_text.specs.Faults.{is_size, entry_fault, form_fault, line_fault};
 ghost use Rattle.raw_plan_text.specs.Meaning.{entries_of, IsMeaning, IsCause};
-ghost use Rattle.raw_plan_text.specs.Answers.{Answers, Stands};
+ghost use Rattle.raw_plan_text.specs.Answers.{Answers, PlanStands};
 
 use crate::forms::{Send, grid_size, is_grid, is_send, read_send};
 use crate::laws::law_one_answer;
@@ -50,7 +50,7 @@ fn is_size(columns: u32, rows: u32) -> bool
 fn read_grid(alloc: Global, line: &Tokens<'_>, number: u32) -> Result<Plan, SetRefusal>
     requires { 0 < length (tokens_of line.now) }
     ensures fault { Answers result number (line_fault [] (tokens_of line.now)) }
-    ensures stands { IfOk result (λ plan. Stands (Some plan) (entries_of (tokens_of line.now ∷ []))) }
+    ensures stands { IfOk result (λ plan. PlanStands (Some plan) (entries_of (tokens_of line.now ∷ []))) }
 {
     if !is_grid(line) {
         return Err(refusal(number, SetKind::Missing));
@@ -88,10 +88,10 @@ fn second_grid(operands: &Tokens<'_>) -> SetKind
 
 // Adds what a line sends, which is the one with this number.
 fn add_send(alloc: Global, send: &Send, number: u32, plan: &mut Plan) -> Result<(), SetRefusal>
-    ensures fault { (entries : List Entry) → Stands (Some plan.old) entries →
+    ensures fault { (entries : List Entry) → PlanStands (Some plan.old) entries →
         Answers result number (entry_fault entries (SendEntry send.now)) }
-    ensures stands { (entries : List Entry) → Stands (Some plan.old) entries →
-        OnOk result (Stands (Some plan.new) (entries ++ SendEntry send.now ∷ [])) }
+    ensures stands { (entries : List Entry) → PlanStands (Some plan.old) entries →
+        OnOk result (PlanStands (Some plan.new) (entries ++ SendEntry send.now ∷ [])) }
 {
     let (cols, rows) = (plan.cols, plan.rows);
     if !is_inside(cols, rows, send.from) || !are_inside(cols, rows, &send.to) {
@@ -114,10 +114,10 @@ fn read_later(
     plan: &mut Plan,
 ) -> Result<(), SetRefusal>
     requires { 0 < length (tokens_of line.now) }
-    ensures fault { (entries : List Entry) → Stands (Some plan.old) entries →
+    ensures fault { (entries : List Entry) → PlanStands (Some plan.old) entries →
         Answers result number (line_fault entries (tokens_of line.now)) }
-    ensures stands { (entries : List Entry) → Stands (Some plan.old) entries →
-        OnOk result (Stands (Some plan.new) (entries ++ entries_of (tokens_of line.now ∷ []))) }
+    ensures stands { (entries : List Entry) → PlanStands (Some plan.old) entries →
+        OnOk result (PlanStands (Some plan.new) (entries ++ entries_of (tokens_of line.now ∷ []))) }
 {
     let operands = line.behind(1);
     if is_grid(line) {
@@ -139,10 +139,10 @@ fn read_line(
     number: u32,
     plan: Option<Plan>,
 ) -> Result<Option<Plan>, SetRefusal>
-    ensures fault { (entries : List Entry) → Stands plan entries →
+    ensures fault { (entries : List Entry) → PlanStands plan entries →
         Answers result number (line_fault entries (tokens_of line.now)) }
-    ensures stands { (entries : List Entry) → Stands plan entries →
-        IfOk result (λ after. Stands after (entries ++ entries_of (tokens_of line.now ∷ []))) }
+    ensures stands { (entries : List Entry) → PlanStands plan entries →
+        IfOk result (λ after. PlanStands after (entries ++ entries_of (tokens_of line.now ∷ []))) }
 {
     if line.len() == 0 {
         return Ok(plan);

@@ -2,9 +2,9 @@
 ghost use Rattle.std.specs.Prelude.{◌≤◌, length};
 ghost use Rattle.raw_shell.specs.Seen.{sink_seen};
 ghost use Rattle.raw_owed.specs.Obeyed.{Obeyed};
-ghost use Rattle.raw_command_line.specs.declared.words.FlowSet.TheVariants.{Endless};
-ghost use Rattle.raw_command_line.specs.declared.words.ReadingCommand.TheVariants.{Flow};
-ghost use Rattle.raw_command_line.specs.declared.words.Command.TheVariants.{Reads};
+ghost use Rattle.raw_command_line.specs.declared.arguments.FlowSet.TheVariants.{Endless};
+ghost use Rattle.raw_command_line.specs.declared.arguments.ReadingCommand.TheVariants.{Flow};
+ghost use Rattle.raw_command_line.specs.declared.arguments.Command.TheVariants.{Reads};
 
 use raw_inputs::{Failure, stream_in};
 use raw_io::Sink;

@@ -7,8 +7,8 @@ ghost use Rattle.raw_owed.specs.LiveOutputs.{live_text};
 ghost use Rattle.raw_owed.specs.Owed.{Owes};
 ghost use Rattle.raw_owed.specs.Obeyed.{Obeyed};
 ghost use Rattle.raw_verdict.specs.LiveText.{lacks_text};
-ghost use Rattle.raw_command_line.specs.declared.words.ReadingCommand.TheVariants.{ProveLive};
-ghost use Rattle.raw_command_line.specs.declared.words.Command.TheVariants.{Reads};
+ghost use Rattle.raw_command_line.specs.declared.arguments.ReadingCommand.TheVariants.{ProveLive};
+ghost use Rattle.raw_command_line.specs.declared.arguments.Command.TheVariants.{Reads};
 
 use raw_claim_text::Claim;
 use raw_cut::{Extent, prove_live};

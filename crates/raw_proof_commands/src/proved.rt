@@ -7,8 +7,8 @@ ghost use Rattle.raw_inputs.specs.Claimed.{IsFlowClaim};
 ghost use Rattle.raw_owed.specs.Proved.{prove_ending};
 ghost use Rattle.raw_shell.specs.Seen.{sink_seen};
 ghost use Rattle.raw_owed.specs.Obeyed.{Obeyed};
-ghost use Rattle.raw_command_line.specs.declared.words.ReadingCommand.TheVariants.{Prove};
-ghost use Rattle.raw_command_line.specs.declared.words.Command.TheVariants.{Reads};
+ghost use Rattle.raw_command_line.specs.declared.arguments.ReadingCommand.TheVariants.{Prove};
+ghost use Rattle.raw_command_line.specs.declared.arguments.Command.TheVariants.{Reads};
 
 use crate::row_proved::prove_stream;
 use raw_claim_text::Claim;

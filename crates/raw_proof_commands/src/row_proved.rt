@@ -6,8 +6,8 @@ ghost use Rattle.raw_owed.specs.declared.limits.TheConstants.{MAX_TOLD_WORDS};
 ghost use Rattle.raw_inputs.specs.Claimed.{IsRowClaim};
 ghost use Rattle.raw_owed.specs.ClaimOutputs.{told_words};
 ghost use Rattle.raw_owed.specs.Obeyed.{Obeyed};
-ghost use Rattle.raw_command_line.specs.declared.words.ReadingCommand.TheVariants.{Prove};
-ghost use Rattle.raw_command_line.specs.declared.words.Command.TheVariants.{Reads};
+ghost use Rattle.raw_command_line.specs.declared.arguments.ReadingCommand.TheVariants.{Prove};
+ghost use Rattle.raw_command_line.specs.declared.arguments.Command.TheVariants.{Reads};
 
 use crate::proved::{cycles_told, ending_with};
 use raw_inputs::Failure;

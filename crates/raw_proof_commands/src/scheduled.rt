@@ -5,12 +5,12 @@ ghost use Rattle.raw_text.specs.Text.{text_lines};
 ghost use Rattle.raw_set_text.specs.Texts.{token_lines};
 ghost use Rattle.raw_shell.specs.Seen.{sink_seen};
 ghost use Rattle.raw_owed.specs.Obeyed.{Obeyed};
-ghost use Rattle.raw_inputs.specs.Inputs.{IsUnset};
+ghost use Rattle.raw_inputs.specs.Inputs.{IsRefusalOf};
 ghost use Rattle.raw_owed.specs.Schedules.{is_stream_text, IsSchedule};
 ghost use Rattle.raw_inputs.specs.declared.form.InputForm.{InputForm};
-ghost use Rattle.raw_command_line.specs.declared.words.FlowSet.TheVariants.{Scheduled};
-ghost use Rattle.raw_command_line.specs.declared.words.ReadingCommand.TheVariants.{Flow};
-ghost use Rattle.raw_command_line.specs.declared.words.Command.TheVariants.{Reads};
+ghost use Rattle.raw_command_line.specs.declared.arguments.FlowSet.TheVariants.{Scheduled};
+ghost use Rattle.raw_command_line.specs.declared.arguments.ReadingCommand.TheVariants.{Flow};
+ghost use Rattle.raw_command_line.specs.declared.arguments.Command.TheVariants.{Reads};
 
 use raw_choice::choose;
 use raw_flow::{FlowRefusal, compile};
@@ -30,7 +30,7 @@ fn set_for_flow(alloc: Global, text: &Text) -> Result<Set, Failure>
     ensures made { (input : List ℕ) → first_fault 1 (lines_of input) ≡ None → text_lines text.now ≡ token_lines input →
         is_stream_text input ≡ false → IfOk result (IsSchedule false input) }
     ensures cause { (input : List ℕ) → first_fault 1 (lines_of input) ≡ None → text_lines text.now ≡ token_lines input →
-        is_stream_text input ≡ false → IfErr result (IsUnset InputForm.Flow input) }
+        is_stream_text input ≡ false → IfErr result (IsRefusalOf InputForm.Flow input) }
 {
     let read = match read_flow(alloc, text) {
         Ok(read) => read,
@@ -53,7 +53,7 @@ fn set_for_stream(alloc: Global, text: &Text) -> Result<Set, Failure>
     ensures made { (input : List ℕ) → first_fault 1 (lines_of input) ≡ None → text_lines text.now ≡ token_lines input →
         is_stream_text input ≡ true → IfOk result (IsSchedule true input) }
     ensures cause { (input : List ℕ) → first_fault 1 (lines_of input) ≡ None → text_lines text.now ≡ token_lines input →
-        is_stream_text input ≡ true → IfErr result (IsUnset InputForm.Flow input) }
+        is_stream_text input ≡ true → IfErr result (IsRefusalOf InputForm.Flow input) }
 {
     let read = match read_stream_from(alloc, text, 0, None) {
         Ok(read) => read,
@@ -70,7 +70,7 @@ fn set_for_stream(alloc: Global, text: &Text) -> Result<Set, Failure>
 fn schedule_in(alloc: Global, input: Vec<u8>) -> Result<Set, Failure>
     requires { length input.items ≤ MAX_TEXT }
     ensures made { IfOk result (IsSchedule (is_stream_text input.items) input.items) }
-    ensures cause { IfErr result (IsUnset InputForm.Flow input.items) }
+    ensures cause { IfErr result (IsRefusalOf InputForm.Flow input.items) }
 {
     let text = match read_text(alloc, input) {
         Ok(text) => text,

@@ -18,10 +18,10 @@ use Rattle.raw_prove.specs.declared.machine.Machine.{Machine}
 use Rattle.raw_prove.specs.declared.turn.Turn.{Turn}
 use Rattle.raw_prove.specs.declared.turn.Turn.TheVariants.{Idle, Fired, Hangs, TooMany}
 use Rattle.raw_prove.specs.declared.unit.Unit.{Unit}
-use Rattle.raw_prove.specs.Units.{local_of, IsUnit, AreUnits, state_of, Stands}
+use Rattle.raw_prove.specs.Units.{local_of, IsUnit, AreUnits, state_of, MachineStands}
 use Rattle.raw_prove.specs.Turns.{ready, next_row, IsAfter, IsIdle, IsTurn, IsTurnOf}
 
-module _ (set_ : ProgramSet) (p : ℕ) (old new : Machine) (x y : Unit) (stands : Stands set_ old) (here : slice_get old.units.items p ≡ Some x)
+module _ (set_ : ProgramSet) (p : ℕ) (old new : Machine) (x y : Unit) (stands : MachineStands set_ old) (here : slice_get old.units.items p ≡ Some x)
     (units : new.units.items ≡ set old.units.items p y) (ends : new.ends.items ≡ old.ends.items) (is_unit : IsUnit set_ p y) (few : length new.table ≤ MAX_TERMS) where
   abbrev g : ProgramSet
   g = numbered set_
@@ -46,7 +46,7 @@ module _ (set_ : ProgramSet) (p : ℕ) (old new : Machine) (x y : Unit) (stands 
       (λ (other : q ≡ p → ⊥). stands.units q z (sym (slice_get-set_other old.units.items p q y other) ∙ at))
       (cases_eq q p)
 
-  stands_then : length new.wires ≡ length old.wires → Stands set_ new
+  stands_then : length new.wires ≡ length old.wires → MachineStands set_ new
   stands_then many = record {
     each = ap length units ∙ length-set old.units.items p y ∙ stands.each;
     units = units_then;

@@ -18,7 +18,7 @@ use Rattle.raw_term.specs.Verdicts.{Break, OnInput, OnTable, TermRun, stepped, t
 use Rattle.raw_prove.specs.declared.machine.Machine.{Machine}
 use Rattle.raw_prove.specs.declared.running.End.{End}
 use Rattle.raw_prove.specs.declared.running.End.TheVariants.{Rests, Hangs, TooMany}
-use Rattle.raw_prove.specs.Units.{local_of, state_of, Stands}
+use Rattle.raw_prove.specs.Units.{local_of, state_of, MachineStands}
 use Rattle.raw_prove.specs.Turns.{StaysIdle, TakesStep, HangsThere, NeedsMore}
 use Rattle.raw_prove.specs.Runs.{going, swept_once, IsReached, IsCountedTurn, BreaksAs, IsWholeSweep, Breaks, IsEnd}
 
@@ -77,7 +77,7 @@ module _ (g : ProgramSet) where
 
 -- a machine in a sweep that began at `old` after `before` steps: the turns of the first p processors are taken
 pub record SweepAt (set_ : ProgramSet) (old : Machine) (before : ℕ) (m : Machine) (steps p : ℕ) : Type 0 where
-  pub stands : Stands set_ m
+  pub stands : MachineStands set_ m
   pub there : swept (numbered set_) (going (state_of old) before) (range_with_len 0 p) ≡ going (state_of m) steps
   pub more : before ≤ steps
   pub few : steps ≤ most_steps set_
@@ -95,7 +95,7 @@ module _ (set_ : ProgramSet) (valid : IsSet set_) (short : EachRunIsShort) (old 
       subst (λ (r : TermRun). r.steps ≤ most_steps set_) all
       (short set_ reached.sweeps ps valid (ap (λ (r : TermRun). r.broken) all))
 
-  pub sweep_first : Stands set_ old → SweepAt set_ old before old before 0
+  pub sweep_first : MachineStands set_ old → SweepAt set_ old before old before 0
   sweep_first stands = record {
     stands = stands;
     there = refl;

@@ -12,7 +12,7 @@ use Rattle.raw_prove.specs.declared.machine.Machine.{Machine}
 use Rattle.raw_prove.specs.declared.unit.Unit.{Unit}
 use Rattle.raw_prove.specs.declared.unit.Unit.TheVariants as a
 use Rattle.raw_prove.specs.declared.unit.TileUnit.{TileUnit}
-use Rattle.raw_prove.specs.Units.{state_of, Stands}
+use Rattle.raw_prove.specs.Units.{state_of, MachineStands}
 use Rattle.raw_serial.specs.Fresh.{IsFirstPort}
 
 -- a tile of this program, and the table after the words in its memory
@@ -31,6 +31,6 @@ IsOpenPort kind program first unit = ⊥
 
 -- a machine of this set at the start, whose table is within its limit
 pub record IsOpened (set : ProgramSet) (m : Machine) : Type 0 where
-  pub stands : Stands set m
+  pub stands : MachineStands set m
   pub start : state_of m ≡ term_start set
   pub within : is_within (state_of m).nodes ≡ true

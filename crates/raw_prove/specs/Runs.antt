@@ -15,7 +15,7 @@ use Rattle.raw_term.specs.Control.{TermsRest}
 use Rattle.raw_prove.specs.declared.machine.Machine.{Machine}
 use Rattle.raw_prove.specs.declared.running.End.{End}
 use Rattle.raw_prove.specs.declared.running.End.TheVariants.{Rests, Hangs, TooMany}
-use Rattle.raw_prove.specs.Units.{state_of, Stands}
+use Rattle.raw_prove.specs.Units.{state_of, MachineStands}
 use Rattle.raw_prove.specs.Turns.{StaysIdle, TakesStep, HangsThere, NeedsMore}
 
 -- a run that goes on from a state, after so many steps
@@ -50,7 +50,7 @@ pub record IsWholeSweep (set : ProgramSet) (old : Machine) (before : ℕ) (new :
   pub more : before ≤ steps
   pub few : steps ≤ most_steps set
   pub quiet : steps ≡ before → IsQuiet (numbered set) (state_of new).state
-  pub stands : Stands set new
+  pub stands : MachineStands set new
 
 -- a sweep, by how the run breaks off in it
 abbrev pub IsSweep : ProgramSet → Machine → ℕ → Option End → Machine → ℕ → Type 0

@@ -13,7 +13,7 @@ use Rattle.raw_term.specs.TermMachine.{TermState, TermRow, term_row, term_step, 
 use Rattle.raw_prove.specs.declared.machine.Machine.{Machine}
 use Rattle.raw_prove.specs.declared.turn.Turn.{Turn}
 use Rattle.raw_prove.specs.declared.turn.Turn.TheVariants.{Idle, Fired, Hangs, TooMany}
-use Rattle.raw_prove.specs.Units.{state_of, Stands}
+use Rattle.raw_prove.specs.Units.{state_of, MachineStands}
 
 -- the term of an operand: 0 where none is read, what is given, or else what the register holds
 abbrev pub operand_by : Bool → Option ℕ → ℕ → ℕ
@@ -75,13 +75,13 @@ IsTurn set p before old wires TooMany nodes next later = IsOver set p before old
 pub record StaysIdle (set : ProgramSet) (p : ℕ) (old new : Machine) : Type 0 where
   pub waits : enabled (numbered set) (state_of old).state p ≡ false
   pub stays : state_of new ≡ state_of old
-  pub stands : Stands set new
+  pub stands : MachineStands set new
 
 pub record TakesStep (set : ProgramSet) (p : ℕ) (old new : Machine) : Type 0 where
   pub may : enabled (numbered set) (state_of old).state p ≡ true
   pub does : term_step (numbered set) (state_of old) p ≡ Some (state_of new)
   pub within : is_within (state_of new).nodes ≡ true
-  pub stands : Stands set new
+  pub stands : MachineStands set new
 
 pub record HangsThere (set : ProgramSet) (p : ℕ) (old : Machine) : Type 0 where
   pub may : enabled (numbered set) (state_of old).state p ≡ true

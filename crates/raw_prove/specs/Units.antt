@@ -68,7 +68,7 @@ abbrev pub state_of : Machine → TermState
 state_of m = record { nodes = m.table; state = record { locals = map local_of m.units.items; wires = m.wires } }
 
 -- what each machine keeps: there is a processor for each of the grid, and the wires at their ends are those of the grid
-pub record Stands (set : ProgramSet) (m : Machine) : Type 0 where
+pub record MachineStands (set : ProgramSet) (m : Machine) : Type 0 where
   pub each : length m.units.items ≡ proc_count set.topo
   pub units : AreUnits set m.units.items
   pub each_end : length m.ends.items ≡ proc_count set.topo

@@ -4,7 +4,7 @@ ghost use Rattle.std.specs.List.{flat_map};
 ghost use Rattle.raw_grid.specs.Topology.{proc_count};
 ghost use Rattle.raw_model.specs.Program.{IsSet};
 ghost use Rattle.raw_model.specs.Parts.{received};
-ghost use Rattle.raw_prove.specs.Units.{state_of, Stands};
+ghost use Rattle.raw_prove.specs.Units.{state_of, MachineStands};
 ghost use Rattle.raw_prove.specs.Turns.{IsTurnOf};
 
 use crate::turn::Turn;
@@ -34,7 +34,7 @@ impl Machine {
     /// machine is not used again.
     pub(crate) fn turn(&mut self, set: &Set, p: ProcId) -> Result<Turn, AllocError>
         requires valid { IsSet set.now }
-        requires stands { Stands set.now self.old }
+        requires stands { MachineStands set.now self.old }
         requires proc { p.0 < proc_count set.now.topo }
         ensures { IfOk result (λ turn. IsTurnOf set.now p.0 self.old turn self.new) }
     {

@@ -2,7 +2,7 @@
 ghost use Rattle.std.specs.Prelude.{◌≡◌, ◌<◌, ◌^◌, IfOk};
 ghost use Rattle.raw_grid.specs.Topology.{proc_count};
 ghost use Rattle.raw_model.specs.Program.{IsSet};
-ghost use Rattle.raw_prove.specs.Units.{Stands};
+ghost use Rattle.raw_prove.specs.Units.{MachineStands};
 ghost use Rattle.raw_prove.specs.Runs.{IsReached, IsCountedTurn, IsSweep, IsEnd};
 
 use crate::machine::Machine;
@@ -32,7 +32,7 @@ impl Machine {
         steps: &mut u64,
     ) -> Result<Option<End>, AllocError>
         requires valid { IsSet set.now }
-        requires stands { Stands set.now self.old }
+        requires stands { MachineStands set.now self.old }
         requires proc { p.0 < proc_count set.now.topo }
         requires few { steps.old < 2 ^ 32 }
         ensures { IfOk result (λ end. IsCountedTurn set.now p.0 self.old steps.old end self.new steps.new) }
@@ -51,7 +51,7 @@ impl Machine {
     // Gives each processor its turn, and counts the steps. Where the run breaks off this says how.
     fn sweep(&mut self, set: &Set, steps: &mut u64) -> Result<Option<End>, AllocError>
         requires valid { IsSet set.now }
-        requires stands { Stands set.now self.old }
+        requires stands { MachineStands set.now self.old }
         requires reached { IsReached set.now self.old steps.old }
         ensures { IfOk result (λ end. IsSweep set.now self.old steps.old end self.new steps.new) }
     {
@@ -67,7 +67,7 @@ impl Machine {
     /// Sweeps over the processors until none is enabled or the run breaks off.
     pub(crate) fn run(&mut self, set: &Set) -> Result<End, AllocError>
         requires valid { IsSet set.now }
-        requires stands { Stands set.now self.old }
+        requires stands { MachineStands set.now self.old }
         requires reached { IsReached set.now self.old 0 }
         ensures { IfOk result (λ end. IsEnd set.now self.new end) }
     {

@@ -12,9 +12,9 @@ use Rattle.raw_report.specs.History.{history_text}
 abbrev pub line_of_step : ProcId → List ℕ
 line_of_step p = decimal p.0 ++ codes "\n"
 
-pub text_of : (steps : List ProcId) → history_text (map (λ p. p.0) steps) ≡ codes "history\n" ++ flat_map line_of_step steps
+pub history_text_of : (steps : List ProcId) → history_text (map (λ p. p.0) steps) ≡ codes "history\n" ++ flat_map line_of_step steps
 unfolding history_text
-text_of steps = ap (λ text. codes "history\n" ++ text) (flat_map-map (λ p. decimal p ++ codes "\n") (λ p. p.0) steps)
+history_text_of steps = ap (λ text. codes "history\n" ++ text) (flat_map-map (λ p. decimal p ++ codes "\n") (λ p. p.0) steps)
 
 -- it begins with its first line
 pub begins_so : (steps : List ProcId) → take (length (codes "history\n")) (history_text (map (λ p. p.0) steps)) ≡ codes "history\n"
@@ -27,6 +27,6 @@ pub begins : (steps : List ProcId) (i : ℕ) (d : ProcId) → i < length steps
     ≡ (codes "history\n" ++ flat_map line_of_step (take i steps)) ++ line_of_step (get_or steps i d)
 begins steps i d lt =
     let lines = flat_map line_of_step (take i steps) ++ line_of_step (get_or steps i d) in
-    ap (take (length (codes "history\n" ++ lines))) (text_of steps)
+    ap (take (length (codes "history\n" ++ lines))) (history_text_of steps)
     ∙ take-append_both (codes "history\n") lines (flat_map line_of_step steps)
     ∙ ap (λ text. codes "history\n" ++ text) (flat_map_begins line_of_step steps i d lt)

@@ -13,9 +13,9 @@ use Rattle.raw_model.specs.TileTable.{word_at}
 use Rattle.raw_model.specs.Start.{MachineState, start, first_memory}
 use Rattle.raw_model.specs.Rest.{IsRun, end, end_from}
 use Rattle.raw_model.specs.Laws.{ComesToRest}
-use Rattle.raw_codegen.specs.Script.{Part, switch_part, to_tile, to_switches}
+use Rattle.raw_codegen.specs.Parts.{Part, switch_part, to_tile, to_switches}
 use Rattle.raw_codegen.specs.Steps.{Leads, HasCome}
-use Rattle.raw_codegen.specs.Standing.{from_tile_wire, IsScript, Stands, PortsAreStopped, HasGone, HasHalted}
+use Rattle.raw_codegen.specs.Standing.{from_tile_wire, IsScript, PartsStand, PortsAreStopped, HasGone, HasHalted}
 use Rattle.raw_codegen.specs.Rows.{send_ins}
 use Rattle.raw_codegen.proofs.Moves.{stay, then, more}
 use Rattle.raw_tile_isa.specs.Load.{load}
@@ -56,8 +56,8 @@ module _ (laws : Laws) (set : ProgramSet) (xs : List Sending) (oks : AllByRecurs
     -- one haul
     haul_phase : (earlier ys : List Sending) (x : Sending) (front : List Part) (memories : ℕ → List ℕ) (s : MachineState) → xs ≡ earlier ++ x ∷ ys → IsSending (tile_count set.topo) x
         → all ≡ front ++ (haul_parts cols rows earlier x ++ parts_from cols rows (earlier ++ x ∷ []) ys)
-        → Stands set front memories s → Holds (λ t. words_to t earlier) memories → Idle s
-        → Leads set s (λ r. (m : ℕ → List ℕ) × Stands set (front ++ haul_parts cols rows earlier x) m r × Holds (λ t. words_to t (earlier ++ x ∷ [])) m × Idle r)
+        → PartsStand set front memories s → Holds (λ t. words_to t earlier) memories → Idle s
+        → Leads set s (λ r. (m : ℕ → List ℕ) × PartsStand set (front ++ haul_parts cols rows earlier x) m r × Holds (λ t. words_to t (earlier ++ x ∷ [])) m × Idle r)
     haul_phase earlier ys x front memories s whole ok e old holds idle =
         let net = x.haul.net in
         let A : List Part = to_tile x.haul.from (send_code net x.word) in
@@ -72,7 +72,7 @@ module _ (laws : Laws) (set : ProgramSet) (xs : List Sending) (oks : AllByRecurs
         let room : length (values_on s.wires w) < set.depth = let some = script.valid.some_depth in rw (idle w) (omega arith) in
         let P1 : MachineState → Type 0 = λ r. HasGone set (front ++ A) memories s r × HasCome w x.word s.wires r.wires in
         let P2 : MachineState → MachineState → Type 0 = λ r q. HasGone set ((front ++ A) ++ B) memories r q × IsAtTargets x.haul x.word q.wires in
-        let Q : MachineState → Type 0 = λ r. (m : ℕ → List ℕ) × Stands set (front ++ haul_parts cols rows earlier x) m r × Holds (λ t. words_to t (earlier ++ x ∷ [])) m × Idle r in
+        let Q : MachineState → Type 0 = λ r. (m : ℕ → List ℕ) × PartsStand set (front ++ haul_parts cols rows earlier x) m r × Holds (λ t. words_to t (earlier ++ x ∷ [])) m × Idle r in
         then set s P1 Q
         (laws.send set all front ((B ++ C) ++ rest) x.haul.from memories s script ok.haul.origin old (load 5 x.word) (send_ins net 5) net x.word e1
         (sends_word laws set all script net x.word (memories x.haul.from) ok.word) room)
@@ -80,43 +80,43 @@ module _ (laws : Laws) (set : ProgramSet) (xs : List Sending) (oks : AllByRecurs
         (tree_runs laws.tree set all script (front ++ A) (C ++ rest) memories x.haul x.word r ok.haul h.0.stands e2
         (record { here = h.1.here ∙ ap (λ vs. vs ++ x.word ∷ []) (idle w); elsewhere = λ u ne. h.1.elsewhere u ne ∙ idle u }))
         (λ q g.
-        more set q (λ u. (m : ℕ → List ℕ) × Stands set (((front ++ A) ++ B) ++ C) m u × Holds (with_stored laws set all script x.haul.to x.word (λ t. words_to t earlier)) m × Idle u) Q
+        more set q (λ u. (m : ℕ → List ℕ) × PartsStand set (((front ++ A) ++ B) ++ C) m u × Holds (with_stored laws set all script x.haul.to x.word (λ t. words_to t earlier)) m × Idle u) Q
         (store_phase laws set all script earlier net x.word x.haul.to ((front ++ A) ++ B) rest (λ t. words_to t earlier) memories q e3 (distinct_from x.haul.to ok.haul.distinct)
         (target_inside set.topo script.valid.topology x.haul ok.haul) (λ t m. refl)
         (λ t m. few_before earlier ys x whole t (target_inside set.topo script.valid.topology x.haul ok.haul t m) m) ok.word g.0.stands holds (at_each laws set all script x.haul x.word q g.1))
         (λ u k. (
           k.0,
-          subst (λ ps. Stands set ps k.0 u) total k.1,
+          subst (λ ps. PartsStand set ps k.0 u) total k.1,
           holds_same (with_stored laws set all script x.haul.to x.word (λ t. words_to t earlier)) (λ t. words_to t (earlier ++ x ∷ [])) k.0 k.2 (λ t. words_more t earlier x),
           k.3,
         ))))
 
     -- all hauls
     all_phase : (ys earlier : List Sending) (front : List Part) (memories : ℕ → List ℕ) (s : MachineState) → xs ≡ earlier ++ ys → AllByRecursion (IsSending (tile_count set.topo)) ys
-        → all ≡ front ++ parts_from cols rows earlier ys → Stands set front memories s → Holds (λ t. words_to t earlier) memories → Idle s
-        → Leads set s (λ r. (m : ℕ → List ℕ) × Stands set all m r × Holds (λ t. words_to t xs) m × Idle r)
+        → all ≡ front ++ parts_from cols rows earlier ys → PartsStand set front memories s → Holds (λ t. words_to t earlier) memories → Idle s
+        → Leads set s (λ r. (m : ℕ → List ℕ) × PartsStand set all m r × Holds (λ t. words_to t xs) m × Idle r)
     all_phase [] earlier front memories s whole ok e old holds idle =
-        stay set s (λ r. (m : ℕ → List ℕ) × Stands set all m r × Holds (λ t. words_to t xs) m × Idle r) (
+        stay set s (λ r. (m : ℕ → List ℕ) × PartsStand set all m r × Holds (λ t. words_to t xs) m × Idle r) (
           memories,
-          subst (λ ps. Stands set ps memories s) (sym (e ∙ append-nil front)) old,
+          subst (λ ps. PartsStand set ps memories s) (sym (e ∙ append-nil front)) old,
           subst (λ zs. Holds (λ t. words_to t zs) memories) (sym (whole ∙ append-nil earlier)) holds,
           idle,
         )
     all_phase (x ∷ ys) earlier front memories s whole ok e old holds idle =
-        let P : MachineState → Type 0 = λ r. (m : ℕ → List ℕ) × Stands set (front ++ haul_parts cols rows earlier x) m r × Holds (λ t. words_to t (earlier ++ x ∷ [])) m × Idle r in
-        let Q : MachineState → Type 0 = λ r. (m : ℕ → List ℕ) × Stands set all m r × Holds (λ t. words_to t xs) m × Idle r in
+        let P : MachineState → Type 0 = λ r. (m : ℕ → List ℕ) × PartsStand set (front ++ haul_parts cols rows earlier x) m r × Holds (λ t. words_to t (earlier ++ x ∷ [])) m × Idle r in
+        let Q : MachineState → Type 0 = λ r. (m : ℕ → List ℕ) × PartsStand set all m r × Holds (λ t. words_to t xs) m × Idle r in
         then set s P Q (haul_phase earlier ys x front memories s whole ok.0 e old holds idle)
         (λ r h. all_phase ys (earlier ++ x ∷ []) (front ++ haul_parts cols rows earlier x) h.0 r (whole ∙ sym (append_assoc earlier (x ∷ []) ys)) ok.1
         (e ∙ sym (append_assoc front (haul_parts cols rows earlier x) (parts_from cols rows (earlier ++ x ∷ []) ys))) h.1 h.2 h.3)
 
     module _ (no_ports : length set.topo.places ≡ 0) where
-      stopped : (m : ℕ → List ℕ) (s : MachineState) → Stands set all m s → PortsAreStopped set s
+      stopped : (m : ℕ → List ℕ) (s : MachineState) → PartsStand set all m s → PortsAreStopped set s
       stopped m s old = record { at = λ p l h e. absurd (let a = slice_get_within s.locals p l e in let b = old.fits.processors in omega arith) }
 
       -- the whole serial order
       serial : Leads set (start set) (λ r. (m : ℕ → List ℕ) × Holds (λ t. words_to t xs) m × Idle r × ((before : MachineState) × HasHalted set m before r))
       serial =
-          let P : MachineState → Type 0 = λ r. (m : ℕ → List ℕ) × Stands set all m r × Holds (λ t. words_to t xs) m × Idle r in
+          let P : MachineState → Type 0 = λ r. (m : ℕ → List ℕ) × PartsStand set all m r × Holds (λ t. words_to t xs) m × Idle r in
           let Q : MachineState → Type 0 = λ r. (m : ℕ → List ℕ) × Holds (λ t. words_to t xs) m × Idle r × ((before : MachineState) × HasHalted set m before r) in
           then set (start set) P Q
           (all_phase xs [] [] (λ t. first_memory []) (start set) refl oks refl (laws.start set all script) (λ t i word e. absurd (cc e)) (laws.start_idle set))

@@ -2,14 +2,14 @@
 use Rattle.std.proofs.Common.{◌≡◌, ℕ, List, [], ◌∷◌, Some, None, refl}
 use Rattle.std.specs.Prelude.{map}
 use Rattle.raw_model.specs.declared.limits.TheConstants.{DEFAULT_DEPTH}
-use Rattle.raw_codegen.specs.declared.limits.TheConstants.{SCRIPT_LIMIT}
+use Rattle.raw_codegen.specs.declared.limits.TheConstants.{PARTS_LIMIT}
 use Rattle.raw_tile_isa.specs.declared.table.TileOp.TheVariants as op
 use Rattle.raw_tile_isa.specs.Made as tile
 use Rattle.raw_switch_isa.specs.Instruction.{SwitchInstruction}
 use Rattle.raw_switch_isa.specs.Made as switch
 use Rattle.raw_grid.specs.declared.parts.Net.TheVariants.{One, Two}
 use Rattle.raw_grid.specs.Topology.{without_ports}
-use Rattle.raw_codegen.specs.Script.{tile_part}
+use Rattle.raw_codegen.specs.Parts.{tile_part}
 use Rattle.raw_route.specs.Hauls.{Haulage}
 use Rattle.raw_route.specs.Tree.{in_tree, is_left, entry, distance, tree_instruction, tree_ins, tree_tiles, tree_order}
 use Rattle.raw_route.specs.Planned.{Sending, plan_parts, planned}
@@ -57,7 +57,7 @@ east = record { haul = record { from = 0; net = One; to = 1 ∷ [] }; word = 7 }
 -- 'nop 1:W>P', 'halt'; one word of tile 1 is shown
 one_send : planned 2 1 (east ∷ []) ≡ record {
   topo = without_ports 2 1;
-  limit = SCRIPT_LIMIT;
+  limit = PARTS_LIMIT;
   depth = DEFAULT_DEPTH;
   ports = [];
   tiles = record {

@@ -16,7 +16,7 @@ use Rattle.raw_model.specs.Machine.{switch_code}
 use Rattle.raw_model.specs.Start.{MachineState, Fits}
 use Rattle.raw_model.specs.Laws.{ComesToRest}
 use Rattle.raw_model.specs.Rest.{IsLawfulFrom, end_from}
-use Rattle.raw_codegen.specs.Script.{Part, tile_part, switch_part, to_tile, to_switches}
+use Rattle.raw_codegen.specs.Parts.{Part, tile_part, switch_part, to_tile, to_switches}
 use Rattle.raw_codegen.specs.Straight.{Core, IsCore, core_with, nothing, only, Does, IsSender, IsTaker, Runs}
 use Rattle.raw_codegen.specs.Standing.{IsScript}
 use Rattle.raw_codegen.specs.Laws.{StartsWithNone, StartsIdle, EachSendRuns, EachTakeRuns, EachHalts}

@@ -14,7 +14,7 @@ use Rattle.raw_tile_isa.specs.Made.{registers}
 use Rattle.raw_switch_isa.specs.Instruction.{SwitchInstruction}
 use Rattle.raw_grid.specs.declared.parts.Net.{Net}
 use Rattle.raw_model.specs.Program.{TileProgram}
-use Rattle.raw_codegen.specs.Script.{Part, ToTile, ToSwitch, to_tile, to_switches, Gives}
+use Rattle.raw_codegen.specs.Parts.{Part, ToTile, ToSwitch, to_tile, to_switches, Gives}
 use Rattle.raw_codegen.specs.Limits.{Overflows}
 use Rattle.raw_codegen.specs.Rows.{register_of, send_ins, store_ins}
 use Rattle.raw_route.specs.Hauls.{Haulage}

@@ -15,10 +15,10 @@ use Rattle.raw_grid.specs.Topology.{tile_count}
 use Rattle.raw_model.specs.Program.{ProgramSet, memory_size}
 use Rattle.raw_model.specs.TileTable.{word_at}
 use Rattle.raw_model.specs.Start.{MachineState}
-use Rattle.raw_codegen.specs.Script.{Part}
+use Rattle.raw_codegen.specs.Parts.{Part}
 use Rattle.raw_codegen.specs.Steps.{Leads, IsGone}
 use Rattle.raw_codegen.specs.Straight.{IsCore, core_with, SendsWord, TakesWord}
-use Rattle.raw_codegen.specs.Standing.{to_tile_wire, IsScript, Stands, SameBut, HasGone}
+use Rattle.raw_codegen.specs.Standing.{to_tile_wire, IsScript, PartsStand, SameBut, HasGone}
 use Rattle.raw_codegen.specs.Rows.{register_of, IsKeeping, send_ins, store_ins, with_word}
 use Rattle.raw_codegen.proofs.Moves.{stay, then, more}
 use Rattle.raw_route.specs.Hauls.{Haulage}
@@ -143,11 +143,11 @@ module _ (laws : Laws) (set : ProgramSet) (all : List Part) (script : IsScript s
   pub store_phase : (earlier : List Sending) (net : Net) (x : ℕ) (ts : List ℕ) (parts rest : List Part) (words memories : ℕ → List ℕ) (s : MachineState)
       → all ≡ parts ++ (map (store_part earlier net) ts ++ rest) → Ordered (λ a b. a ≡ b → ⊥) ts → ((t : ℕ) → In t ts → t < tile_count set.topo)
       → ((t : ℕ) → In t ts → words t ≡ words_to t earlier) → ((t : ℕ) → In t ts → length (words_to t earlier) < MAX_SWITCH_CODE) → x < 2 ^ 32
-      → Stands set parts memories s → Holds words memories → IsAtEach net ts x s
-      → Leads set s (λ r. (m : ℕ → List ℕ) × Stands set (parts ++ map (store_part earlier net) ts) m r × Holds (with_stored ts x words) m × Idle r)
+      → PartsStand set parts memories s → Holds words memories → IsAtEach net ts x s
+      → Leads set s (λ r. (m : ℕ → List ℕ) × PartsStand set (parts ++ map (store_part earlier net) ts) m r × Holds (with_stored ts x words) m × Idle r)
   store_phase earlier net x [] parts rest words memories s e distinct inside same few small old holds at =
-      stay set s (λ r. (m : ℕ → List ℕ) × Stands set (parts ++ []) m r × Holds (with_stored [] x words) m × Idle r)
-      (memories, subst (λ ps. Stands set ps memories s) (sym (append-nil parts)) old, holds, λ w. at.nowhere w (λ t m. absurd (no_entry t m)))
+      stay set s (λ r. (m : ℕ → List ℕ) × PartsStand set (parts ++ []) m r × Holds (with_stored [] x words) m × Idle r)
+      (memories, subst (λ ps. PartsStand set ps memories s) (sym (append-nil parts)) old, holds, λ w. at.nowhere w (λ t m. absurd (no_entry t m)))
     where
       no_entry : (t : ℕ) → In t [] → ⊥
       no_entry t m = omega arith
@@ -165,11 +165,11 @@ module _ (laws : Laws) (set : ProgramSet) (all : List Part) (script : IsScript s
       let fit = (old.fits.locals t _ (old.tiles t within).1).1 in
       let long : 4 * length (words t) + 4 ≤ length (memories t) = let a = fit.memory in let b = size_is in let c = few t first in let d = size in omega arith in
       let P : MachineState → Type 0 = λ r. HasGone set (parts ++ store_part earlier net t ∷ []) after s r × IsGone (to_tile_wire net t) x s.wires r.wires in
-      let Q : MachineState → Type 0 = λ r. (m : ℕ → List ℕ) × Stands set (parts ++ map (store_part earlier net) (t ∷ ts)) m r × Holds (with_stored (t ∷ ts) x words) m × Idle r in
+      let Q : MachineState → Type 0 = λ r. (m : ℕ → List ℕ) × PartsStand set (parts ++ map (store_part earlier net) (t ∷ ts)) m r × Holds (with_stored (t ∷ ts) x words) m × Idle r in
       then set s P Q
       (laws.take set all parts (map (store_part earlier net) ts ++ rest) t memories after s script within old (store_ins (register_of net) v) net x [] e takes others (at.there t first))
       (λ r h.
-      more set r (λ q. (m : ℕ → List ℕ) × Stands set ((parts ++ store_part earlier net t ∷ []) ++ map (store_part earlier net) ts) m q × Holds (with_stored ts x (with_one t x words)) m × Idle q) Q
+      more set r (λ q. (m : ℕ → List ℕ) × PartsStand set ((parts ++ store_part earlier net t ∷ []) ++ map (store_part earlier net) ts) m q × Holds (with_stored ts x (with_one t x words)) m × Idle q) Q
       (store_phase earlier net x ts (parts ++ store_part earlier net t ∷ []) rest (with_one t x words) after r
       (e ∙ sym (append_assoc parts (store_part earlier net t ∷ []) (map (store_part earlier net) ts ++ rest)))
       distinct.1
@@ -188,7 +188,7 @@ module _ (laws : Laws) (set : ProgramSet) (all : List Part) (script : IsScript s
       }))
       (λ q g. (
         g.0,
-        subst (λ ps. Stands set ps g.0 q) (append_assoc parts (store_part earlier net t ∷ []) (map (store_part earlier net) ts)) g.1,
+        subst (λ ps. PartsStand set ps g.0 q) (append_assoc parts (store_part earlier net t ∷ []) (map (store_part earlier net) ts)) g.1,
         holds_same (with_stored ts x (with_one t x words)) (with_stored (t ∷ ts) x words) g.0 g.2 (same_stored t ts x words none),
         g.3,
       )))

@@ -17,7 +17,7 @@ use Rattle.raw_grid.specs.declared.parts.Net.TheVariants.{One, Two}
 use Rattle.raw_grid.specs.Topology.{Topology, IsTopology, IsSize, IsAtEdge, without_ports}
 use Rattle.raw_model.specs.declared.program.Show.{Show}
 use Rattle.raw_model.specs.Program.{TileProgram, IsTileProgram, HaveWires, IsPortProgram, IsShow, IsSet, memory_size}
-use Rattle.raw_codegen.specs.Script.{Part, switch_part, to_tile, to_switches, script_program, script_programs}
+use Rattle.raw_codegen.specs.Parts.{Part, switch_part, to_tile, to_switches, script_program, script_programs}
 use Rattle.raw_codegen.specs.Lawful.{AreParts}
 use Rattle.raw_codegen.specs.Limits.{IsShort, AreShort}
 use Rattle.raw_codegen.specs.Rows.{register_of, send_ins, store_ins}

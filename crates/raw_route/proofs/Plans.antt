@@ -8,11 +8,11 @@ use Rattle.std.proofs.lemmas.List.{append-nil, take-append-drop}
 use Rattle.std.proofs.lemmas.List.Elements.{All-from_recursion}
 use Rattle.std.proofs.lemmas.List.FromFn.{length-map-range_with_len}
 use Rattle.raw_model.specs.declared.limits.TheConstants.{DEFAULT_DEPTH}
-use Rattle.raw_codegen.specs.declared.limits.TheConstants.{SCRIPT_LIMIT}
+use Rattle.raw_codegen.specs.declared.limits.TheConstants.{PARTS_LIMIT}
 use Rattle.raw_grid.specs.Topology.{Topology, IsSize, without_ports}
 use Rattle.raw_model.specs.declared.program.Show.{Show}
 use Rattle.raw_model.specs.Program.{ProgramSet, TileProgram, PortProgram}
-use Rattle.raw_codegen.specs.Script.{Part, programs_of, script_programs, Gives}
+use Rattle.raw_codegen.specs.Parts.{Part, programs_of, script_programs, Gives}
 use Rattle.raw_codegen.specs.Limits.{AreShort, IsTooLong, Overflows}
 use Rattle.raw_route.specs.Hauls.{Haulage, IsHaul}
 use Rattle.raw_route.specs.Planned.{Sending, IsSending, sendings, words_to, haul_parts, parts_from, show_of, plan_parts, planned}
@@ -132,9 +132,9 @@ zero_counts n m counts e is = is ∙ ap (λ k. replicate k 0) e ∙ none 0 n
 -- the planned set of parts
 pub set_is : (cols rows : ℕ) (xs : List Sending) (topo : Topology) (ports : List PortProgram) (tiles : List TileProgram) (shows : List Show)
     → topo ≡ without_ports cols rows → ports ≡ [] → tiles ≡ script_programs (cols * rows) (plan_parts cols rows xs) → shows ≡ filter_map (show_of xs) (range_with_len 0 (cols * rows))
-    → ◌≡◌ {A = ProgramSet} (record { topo = topo; limit = SCRIPT_LIMIT; depth = DEFAULT_DEPTH; ports = ports; tiles = tiles; shows = shows }) (planned cols rows xs)
+    → ◌≡◌ {A = ProgramSet} (record { topo = topo; limit = PARTS_LIMIT; depth = DEFAULT_DEPTH; ports = ports; tiles = tiles; shows = shows }) (planned cols rows xs)
 unfolding planned
-set_is cols rows xs topo ports tiles shows a b c d = λ i. record { topo = a i; limit = SCRIPT_LIMIT; depth = DEFAULT_DEPTH; ports = b i; tiles = c i; shows = d i }
+set_is cols rows xs topo ports tiles shows a b c d = λ i. record { topo = a i; limit = PARTS_LIMIT; depth = DEFAULT_DEPTH; ports = b i; tiles = c i; shows = d i }
 
 pub tiles_are_short : (cols rows : ℕ) (xs : List Sending) → AreShort (script_programs (cols * rows) (plan_parts cols rows xs)) → AreShort (planned cols rows xs).tiles
 unfolding planned

@@ -22,10 +22,10 @@ use Rattle.raw_model.specs.Local.{Tile, Switch}
 use Rattle.raw_model.specs.Machine.{switch_code}
 use Rattle.raw_model.specs.Start.{MachineState, Fits}
 use Rattle.raw_model.specs.Rest.{end_from}
-use Rattle.raw_codegen.specs.Script.{Part, tile_part, switch_part, to_switches}
+use Rattle.raw_codegen.specs.Parts.{Part, tile_part, switch_part, to_switches}
 use Rattle.raw_codegen.specs.Steps.{Leads, IsAlone}
 use Rattle.raw_codegen.specs.Straight.{at_tile, at_switch, core_with}
-use Rattle.raw_codegen.specs.Standing.{to_tile_wire, from_tile_wire, IsScript, Stands, HasGone}
+use Rattle.raw_codegen.specs.Standing.{to_tile_wire, from_tile_wire, IsScript, PartsStand, HasGone}
 use Rattle.raw_codegen.proofs.Straight.{at_place}
 use Rattle.raw_route.specs.Hauls.{Haulage, IsHaul}
 use Rattle.raw_route.specs.Tree.{in_tree, is_left, tree_instruction, tree_ins, tree_order}
@@ -39,7 +39,7 @@ to_differs Two a b e = omega arith
 
 module _ (laws : TreeLaws) (set : ProgramSet) (all : List Part) (script : IsScript set all) where
   -- the tree has carried a value
-  module _ (parts : List Part) (memories : ℕ → List ℕ) (s r : MachineState) (old : Stands set parts memories s) (fits : Fits set r) (haul : Haulage) (x : ℕ) (did : HasCarried set haul x s r) where
+  module _ (parts : List Part) (memories : ℕ → List ℕ) (s r : MachineState) (old : PartsStand set parts memories s) (fits : Fits set r) (haul : Haulage) (x : ℕ) (did : HasCarried set haul x s r) where
     abbrev tree : List Part
     tree = to_switches (tile_count set.topo) (tree_ins set.topo.cols haul)
 
@@ -77,7 +77,7 @@ module _ (laws : TreeLaws) (set : ProgramSet) (all : List Part) (script : IsScri
             (λ tile k on f. let same : u ≡ tile = omega arith in let bad : false ≡ true = sym e ∙ ap (in_tree set.topo.cols haul) same ∙ on in cc bad)
             ∙ (old.switches u h).1 ∙ ap (λ k. Some (Switch (at_switch k (old.switches u h).0))) (sym (off_tree u h e))
 
-        stands : Stands set (parts ++ tree) memories r
+        stands : PartsStand set (parts ++ tree) memories r
         stands = record {
           tiles = λ u h. (
             (old.tiles u h).0,
@@ -102,7 +102,7 @@ module _ (laws : TreeLaws) (set : ProgramSet) (all : List Part) (script : IsScri
 
   -- the tree carries the word from the wire of the origin to those of the targets
   module _ (parts rest : List Part) (memories : ℕ → List ℕ) (haul : Haulage) (x : ℕ) (s : MachineState) (is : IsHaul (tile_count set.topo) haul)
-      (old : Stands set parts memories s) (e : all ≡ parts ++ (to_switches (tile_count set.topo) (tree_ins set.topo.cols haul) ++ rest)) (alone : IsAlone (from_tile_wire haul.net haul.from) x s.wires) where
+      (old : PartsStand set parts memories s) (e : all ≡ parts ++ (to_switches (tile_count set.topo) (tree_ins set.topo.cols haul) ++ rest)) (alone : IsAlone (from_tile_wire haul.net haul.from) x s.wires) where
     ready : (u : ℕ) (within : u < tile_count set.topo) → in_tree set.topo.cols haul u ≡ true → StandsReady set haul u (at_switch (length (switch_part u parts)) (old.switches u within).0)
     ready u within on =
         let ins : SwitchInstruction = tree_instruction set.topo.cols haul u in

@@ -9,7 +9,7 @@ use Rattle.raw_switch_isa.specs.Instruction.{SwitchInstruction}
 use Rattle.raw_grid.specs.declared.parts.Net.{Net}
 use Rattle.raw_grid.specs.declared.parts.Dir.TheVariants.{P}
 use Rattle.raw_grid.specs.Topology.{Topology, IsTopology, tile_count}
-use Rattle.raw_codegen.specs.Script.{Part, switch_part, to_tile, to_switches}
+use Rattle.raw_codegen.specs.Parts.{Part, switch_part, to_tile, to_switches}
 use Rattle.raw_route.specs.Tree.{in_tree, tree_instruction, tree_ins}
 use Rattle.raw_route.specs.Planned.{Sending, IsSending, is_among, words_to, send_code, store_part, haul_parts, parts_from}
 use Rattle.raw_route.proofs.Given.{PartsGive}

@@ -4,8 +4,8 @@ use Rattle.raw_grid.specs.Topology.{IsSize, tile_count}
 use Rattle.raw_model.specs.Program.{ProgramSet, IsSet}
 use Rattle.raw_model.specs.Start.{MachineState}
 use Rattle.raw_codegen.specs.Limits.{AreShort}
-use Rattle.raw_codegen.specs.Script.{Part, to_switches}
-use Rattle.raw_codegen.specs.Standing.{from_tile_wire, IsScript, Stands, HasGone}
+use Rattle.raw_codegen.specs.Parts.{Part, to_switches}
+use Rattle.raw_codegen.specs.Standing.{from_tile_wire, IsScript, PartsStand, HasGone}
 use Rattle.raw_codegen.specs.Steps.{Leads, IsAlone}
 use Rattle.raw_route.specs.Hauls.{Haulage, IsHaul}
 use Rattle.raw_route.specs.Tree.{tree_ins}
@@ -18,7 +18,7 @@ use Rattle.raw_route.specs.Delivered.{Delivers}
 abbrev pub EachTreeRuns : Type 0
 EachTreeRuns =
     (set : ProgramSet) (all parts rest : List Part) (memories : ℕ → List ℕ) (haul : Haulage) (x : ℕ) (s : MachineState) →
-    IsScript set all → IsHaul (tile_count set.topo) haul → Stands set parts memories s →
+    IsScript set all → IsHaul (tile_count set.topo) haul → PartsStand set parts memories s →
     all ≡ parts ++ (to_switches (tile_count set.topo) (tree_ins set.topo.cols haul) ++ rest) →
     IsAlone (from_tile_wire haul.net haul.from) x s.wires →
     Leads set s (λ r. HasGone set (parts ++ to_switches (tile_count set.topo) (tree_ins set.topo.cols haul)) memories s r × IsAtTargets haul x r.wires)

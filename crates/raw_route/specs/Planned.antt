@@ -2,14 +2,14 @@
 use Rattle.std.specs.Prelude.{ℕ, ◌*◌, ◌<◌, ◌^◌, Bool, ◌==◌, nat_lt, Option, Some, None, List, [], ◌∷◌, ◌++◌, map, length, if◌then◌else◌}
 use Rattle.std.specs.List.{list_any, filter_map, range_with_len}
 use Rattle.raw_model.specs.declared.limits.TheConstants.{DEFAULT_DEPTH}
-use Rattle.raw_codegen.specs.declared.limits.TheConstants.{SCRIPT_LIMIT}
+use Rattle.raw_codegen.specs.declared.limits.TheConstants.{PARTS_LIMIT}
 use Rattle.raw_tile_isa.specs.Instruction.{Instruction}
 use Rattle.raw_tile_isa.specs.Load.{load}
 use Rattle.raw_grid.specs.declared.parts.Net.{Net}
 use Rattle.raw_grid.specs.Topology.{without_ports}
 use Rattle.raw_model.specs.declared.program.Show.{Show}
 use Rattle.raw_model.specs.Program.{ProgramSet}
-use Rattle.raw_codegen.specs.Script.{Part, ToTile, to_tile, to_switches, script_programs}
+use Rattle.raw_codegen.specs.Parts.{Part, ToTile, to_tile, to_switches, script_programs}
 use Rattle.raw_codegen.specs.Rows.{register_of, send_ins, store_ins}
 use Rattle.raw_route.specs.Hauls.{Haulage, IsHaul}
 use Rattle.raw_route.specs.Tree.{tree_ins}
@@ -73,7 +73,7 @@ show_of xs tile = show_first tile (length (words_to tile xs))
 unfoldable pub planned : ℕ → ℕ → List Sending → ProgramSet
 planned cols rows xs = record {
   topo = without_ports cols rows;
-  limit = SCRIPT_LIMIT;
+  limit = PARTS_LIMIT;
   depth = DEFAULT_DEPTH;
   ports = [];
   tiles = script_programs (cols * rows) (plan_parts cols rows xs);

@@ -1,7 +1,7 @@
 //! What a haul gives to tiles and switches.
 ghost use Rattle.std.specs.Prelude.{◌≡◌, ◌≢◌, ◌⊎◌, ℕ, ◌*◌, ◌<◌, ◌++◌, List, [], ◌∷◌, length, map, All, AllPairs, OnOk, Err};
 ghost use Rattle.raw_grid.specs.Topology.{IsSize};
-ghost use Rattle.raw_codegen.specs.Script.{ToTile, to_tile, to_switches, Gives};
+ghost use Rattle.raw_codegen.specs.Parts.{ToTile, to_tile, to_switches, Gives};
 ghost use Rattle.raw_codegen.specs.Limits.{Overflows};
 ghost use Rattle.raw_codegen.specs.Rows.{register_of, store_ins};
 ghost use Rattle.raw_route.specs.Hauls.{IsHaul};

@@ -5,7 +5,7 @@ ghost use Rattle.std.specs.Option.{option_to_list};
 ghost use Rattle.raw_grid.specs.Topology.{IsSize, without_ports};
 ghost use Rattle.raw_model.specs.Program.{IsSet};
 ghost use Rattle.raw_model.specs.Rest.{IsRun, end};
-ghost use Rattle.raw_codegen.specs.Script.{programs_of, script_programs};
+ghost use Rattle.raw_codegen.specs.Parts.{programs_of, script_programs};
 ghost use Rattle.raw_codegen.specs.Limits.{AreShort};
 ghost use Rattle.raw_route.specs.Planned.{Sending, sendings, show_first, show_of, plan_parts, planned};
 ghost use Rattle.raw_route.specs.Counts.{AreCounts};
@@ -17,7 +17,7 @@ use crate::giving::give_haul;
 use crate::haul::Haul;
 use crate::laws::{law_delivers, law_planned};
 use crate::refusal::{PlanRefusal, refusal_of};
-use raw_codegen::{GiveRefusal, Programs, SCRIPT_LIMIT, law_giving, law_parts, words_fit};
+use raw_codegen::{GiveRefusal, PARTS_LIMIT, Programs, law_giving, law_parts, words_fit};
 use raw_grid::{Topo, TopoRefusal};
 use raw_model::limits::DEFAULT_DEPTH;
 use raw_model::{Set, Show, TileProg};
@@ -143,7 +143,7 @@ fn set_of_hauls(
     law_delivers();
     Ok(Set {
         topo,
-        limit: SCRIPT_LIMIT,
+        limit: PARTS_LIMIT,
         depth: DEFAULT_DEPTH,
         ports: Vec::new(alloc),
         tiles,
@@ -154,7 +154,7 @@ fn set_of_hauls(
 /// The planned set of hauls with their words: each lawful list of its steps that comes to rest has brought each word to
 /// its targets, where it stands behind those of earlier hauls, from address 0 on.
 ///
-/// Its programs have no loops, so that no processor comes to the limit, `SCRIPT_LIMIT`.
+/// Its programs have no loops, so that no processor comes to the limit, `PARTS_LIMIT`.
 pub fn plan(
     alloc: Global,
     cols: u8,

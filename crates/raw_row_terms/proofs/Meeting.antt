@@ -41,7 +41,7 @@ use Rattle.raw_term.proofs.Terms.{Holds, AreTerms, term_values}
 use Rattle.raw_term.proofs.Image.{Pairs, AlikeWires, AlikeLocals, AlikeAt, local_at, pairs_up, pairs_length}
 use Rattle.raw_term.proofs.TileTerms.{none_holds}
 use Rattle.raw_term.proofs.Rows.{AlikeLocal, each_kind}
-use Rattle.raw_term.proofs.Steps.{Stands, IsAt, IsSwept, sweeps_stand, ran_free, quiet_stands}
+use Rattle.raw_term.proofs.Steps.{TermsStand, IsAt, IsSwept, sweeps_stand, ran_free, quiet_stands}
 use Rattle.raw_term.proofs.Start.{fed_room, start_stands}
 use Rattle.raw_term.proofs.Ending.{outcome_stands}
 use Rattle.raw_term.proofs.Claims.{Laws, lawful_of, cells_of, compared_values, classes_pairs}
@@ -262,7 +262,7 @@ rows_are_right laws set s order n valid has_rows ports sinks verdict inputs are 
     sweeps_stand each inputs set nums words lawful room sweeps_ (first_run set) (start machine) begin proof.free in
     let steps : List ℕ = sweeps machine sweeps_ (start machine) in
     let t : MachineState = end_from machine (start machine) steps in
-    let stands : Stands each inputs set nums words lawful room r.at t = both.ends.stands in
+    let stands : TermsStand each inputs set nums words lawful room r.at t = both.ends.stands in
     let quiet : IsQuiet machine t = quiet_stands each inputs set nums words lawful room r.at t stands proof.rests in
     let is_set : IsSet machine = fed_set set inputs all valid in
     let done : outcome machine t ≡ Done = sym (outcome_stands each inputs set nums words lawful room r.at t stands) ∙ proof.done in

@@ -16,7 +16,7 @@ use Rattle.raw_term.proofs.Terms.{Holds, some_is, none_some, term_values}
 use Rattle.raw_term.proofs.Image.{Pairs, pairs_up, fronts_alike, Alike, AlikeAt, local_at, row_alike, alike_up}
 use Rattle.raw_term.proofs.TileTerms.{none_holds}
 use Rattle.raw_term.proofs.Rows.{AlikeLocal, RowMade, IsLawfulIns, row_made}
-use Rattle.raw_term.proofs.Steps.{Stands, local_up, takes_same, ready_stands}
+use Rattle.raw_term.proofs.Steps.{TermsStand, local_up, takes_same, ready_stands}
 use Rattle.raw_rows.specs.Noted.{NotedRow, noted_row, NotedState, noted_at, after_noted, noted_step_from, noted_step, step_or_noted, along_noting}
 use Rattle.raw_rows.specs.Kernels.{along}
 use Rattle.raw_rows.proofs.Noted.{noted_row_made}
@@ -76,7 +76,7 @@ module _ (each : EachGivesWords) (inputs : List ℕ) (set_ : ProgramSet) (nums w
   machine = record set_ { ports = words }
 
   abbrev S : TermState → MachineState → Type 0
-  S = Stands each inputs set_ nums words lawful room
+  S = TermsStand each inputs set_ nums words lawful room
 
   -- a state that stands for one of the machine, and in which all terms have the values that they had
   pub record Follows (s e : TermState) (t : MachineState) : Type 0 where

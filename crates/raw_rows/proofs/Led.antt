@@ -25,7 +25,7 @@ use Rattle.raw_term.proofs.Image.{Pairs, AlikeWires, AlikeLocals, AlikeAt, local
 use Rattle.raw_term.proofs.SwitchImage.{pairs_at}
 use Rattle.raw_term.proofs.TileTerms.{none_holds}
 use Rattle.raw_term.proofs.Rows.{AlikeLocal, each_kind, IsLawfulIns}
-use Rattle.raw_term.proofs.Steps.{Stands, local_up, quiet_stands}
+use Rattle.raw_term.proofs.Steps.{TermsStand, local_up, quiet_stands}
 use Rattle.raw_term.proofs.Claims.{lawful_of}
 use Rattle.raw_row_terms.specs.RowTerms.{placed, RowTerms, row_terms, carried_over, AreWordNodes, AllWords}
 use Rattle.raw_row_terms.proofs.Placing.{Placed, all_placed, RowsPlaced, rows_placed, pairs_append, rows_many, pairs_due}
@@ -148,7 +148,7 @@ module _ (each : EachGivesWords) (set_ : ProgramSet) (s : Stream) (valid : IsSet
       room = λ p. rooms_same s ns rows rows_long qs (p - 2 * tile_count set_.topo)
 
       abbrev S : TermState → MachineState → Type 0
-      S = Stands each inputs (record set_ { limit = limit }) nums few lawful room
+      S = TermsStand each inputs (record set_ { limit = limit }) nums few lawful room
 
       -- a cut in a table that has the terms of what is carried and of rows
       cut_placed : (cut : Cut) → AreWordNodes cut.at.nodes → (nodes : List Node) (cs carries : List ℕ) (xs window : List (List ℕ)) → AreTerms inputs nodes → Pairs (Holds (V nodes)) cs carries → AlikeWires (Holds (V nodes)) xs window
@@ -389,7 +389,7 @@ module _ (each : EachGivesWords) (set_ : ProgramSet) (s : Stream) (valid : IsSet
       wide_ports xs = map (roomy_port s xs) qs
 
       roomy_stands : (at : TermState) (t : MachineState) → S at t
-          → Stands each inputs (record set_ { limit = limit + 1 }) (wide_ports ns) (wide_ports rows) lawful (λ p. roomy_same s ns rows rows_long qs (p - 2 * tile_count set_.topo)) at t
+          → TermsStand each inputs (record set_ { limit = limit + 1 }) (wide_ports ns) (wide_ports rows) lawful (λ p. roomy_same s ns rows rows_long qs (p - 2 * tile_count set_.topo)) at t
       roomy_stands at t h = record {
         terms = h.terms;
         has = h.has;

@@ -12,8 +12,8 @@ use Rattle.raw_shell.specs.declared.ending.Ending.{Ending}
 use Rattle.raw_shell.specs.declared.ending.Ending.TheVariants.{Done, Deadlock, Stuck, Trapped, Limit, Unlawful, Unproved, Refuted}
 use Rattle.raw_shell.specs.Answers.{ending_of, ending_status}
 use Rattle.raw_owed.specs.EachRun.{StandsForAll}
-use Rattle.raw_command_line.specs.declared.words.RunOutput.{RunOutput}
-use Rattle.raw_command_line.specs.declared.words.SetForm.{SetForm}
+use Rattle.raw_command_line.specs.declared.arguments.RunOutput.{RunOutput}
+use Rattle.raw_command_line.specs.declared.arguments.SetForm.{SetForm}
 use Rattle.raw_inputs.specs.Inputs.{whole, Means}
 use Rattle.raw_owed.specs.Owed.{IsRunOutput, run_text}
 

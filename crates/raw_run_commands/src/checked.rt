@@ -5,8 +5,8 @@ ghost use Rattle.raw_steps.specs.Taking.{numbers};
 ghost use Rattle.raw_owed.specs.Checked.{why_text, place_text, check_line, check_ending};
 ghost use Rattle.raw_shell.specs.Seen.{sink_seen};
 ghost use Rattle.raw_owed.specs.Obeyed.{Obeyed};
-ghost use Rattle.raw_command_line.specs.declared.words.ReadingCommand.TheVariants.{Check};
-ghost use Rattle.raw_command_line.specs.declared.words.Command.TheVariants.{Reads};
+ghost use Rattle.raw_command_line.specs.declared.arguments.ReadingCommand.TheVariants.{Check};
+ghost use Rattle.raw_command_line.specs.declared.arguments.Command.TheVariants.{Reads};
 
 use raw_grid::ProcId;
 use raw_inputs::{Failure, steps_in};

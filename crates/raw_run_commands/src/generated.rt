@@ -8,8 +8,8 @@ ghost use Rattle.raw_generated.specs.Generated.{grid};
 ghost use Rattle.raw_generated.specs.Summary.{words_out, all_steps, summary_line};
 ghost use Rattle.raw_shell.specs.Seen.{sink_seen};
 ghost use Rattle.raw_owed.specs.Obeyed.{Obeyed};
-ghost use Rattle.raw_command_line.specs.declared.words.AloneCommand.TheVariants.{Work};
-ghost use Rattle.raw_command_line.specs.declared.words.Command.TheVariants.{Alone};
+ghost use Rattle.raw_command_line.specs.declared.arguments.AloneCommand.TheVariants.{Work};
+ghost use Rattle.raw_command_line.specs.declared.arguments.Command.TheVariants.{Alone};
 
 use raw_generated::{MAX_GENERATED_WORDS, law_generated, make_set};
 use raw_grid::ProcId;

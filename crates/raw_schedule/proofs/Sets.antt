@@ -9,8 +9,8 @@ use Rattle.raw_grid.specs.Topology.{Topology, tile_count}
 use Rattle.raw_model.specs.declared.limits.TheConstants.{DEFAULT_DEPTH}
 use Rattle.raw_model.specs.declared.program.Show.{Show}
 use Rattle.raw_model.specs.Program.{ProgramSet, TileProgram, IsTileProgram, HaveWires, PortProgram, IsPortProgram, IsOfKind, AreOfKinds, IsShow, IsSet}
-use Rattle.raw_codegen.specs.declared.limits.TheConstants.{SCRIPT_LIMIT}
-use Rattle.raw_codegen.specs.Script.{Part, script_program, script_programs}
+use Rattle.raw_codegen.specs.declared.limits.TheConstants.{PARTS_LIMIT}
+use Rattle.raw_codegen.specs.Parts.{Part, script_program, script_programs}
 use Rattle.raw_codegen.specs.Lawful.{AreParts}
 use Rattle.raw_codegen.specs.Limits.{AreShort}
 use Rattle.raw_flow.specs.declared.limits.TheConstants.{MAX_NODES}
@@ -91,8 +91,8 @@ port_programs inputs outs = record { words = inputs; capacity = 0 } ∷ record {
 
 pub set_is : (flow : Dataflow) (inputs : List ℕ) (topo : Topology) (ports : List PortProgram) (tiles : List TileProgram) (shows : List Show)
     → topo ≡ flow_topo flow → ports ≡ flow_ports flow inputs → shows ≡ []
-    → ◌≡◌ {A = ProgramSet} (record { topo = topo; limit = SCRIPT_LIMIT; depth = DEFAULT_DEPTH; ports = ports; tiles = tiles; shows = shows }) (with_programs flow inputs tiles)
-set_is flow inputs topo ports tiles shows a b d = λ i. record { topo = a i; limit = SCRIPT_LIMIT; depth = DEFAULT_DEPTH; ports = b i; tiles = tiles; shows = d i }
+    → ◌≡◌ {A = ProgramSet} (record { topo = topo; limit = PARTS_LIMIT; depth = DEFAULT_DEPTH; ports = ports; tiles = tiles; shows = shows }) (with_programs flow inputs tiles)
+set_is flow inputs topo ports tiles shows a b d = λ i. record { topo = a i; limit = PARTS_LIMIT; depth = DEFAULT_DEPTH; ports = b i; tiles = tiles; shows = d i }
 
 module _ (laws : PartsLaws) (set : ProgramSet) (is : IsSet set) where
   module _ (parts : List Part) (lawful : AreParts set.topo parts) (short : AreShort (script_programs (tile_count set.topo) parts)) where

@@ -2,7 +2,7 @@
 use Rattle.std.specs.Prelude.{◌≡◌, List}
 use Rattle.raw_grid.specs.Topology.{Topology, tile_count}
 use Rattle.raw_model.specs.Program.{TileProgram}
-use Rattle.raw_codegen.specs.Script.{Part, programs_of, script_programs}
+use Rattle.raw_codegen.specs.Parts.{Part, programs_of, script_programs}
 use Rattle.raw_codegen.specs.Lawful.{AreParts}
 use Rattle.raw_codegen.specs.Limits.{AreShort}
 

@@ -2,7 +2,7 @@
 use Rattle.std.specs.Prelude.{◌≡◌, ℕ, List, [], ◌∷◌, length}
 use Rattle.raw_model.specs.declared.limits.TheConstants.{DEFAULT_DEPTH}
 use Rattle.raw_model.specs.Program.{ProgramSet, TileProgram, PortProgram}
-use Rattle.raw_codegen.specs.declared.limits.TheConstants.{SCRIPT_LIMIT}
+use Rattle.raw_codegen.specs.declared.limits.TheConstants.{PARTS_LIMIT}
 use Rattle.raw_flow.specs.Flows.{Dataflow}
 use Rattle.raw_flow.specs.Compiled.{flow_topo}
 
@@ -14,7 +14,7 @@ flow_ports flow inputs = record { words = inputs; capacity = 0 } ∷ record { wo
 abbrev pub with_programs : Dataflow → List ℕ → List TileProgram → ProgramSet
 with_programs flow inputs tiles = record {
   topo = flow_topo flow;
-  limit = SCRIPT_LIMIT;
+  limit = PARTS_LIMIT;
   depth = DEFAULT_DEPTH;
   ports = flow_ports flow inputs;
   tiles = tiles;

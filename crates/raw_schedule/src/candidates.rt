@@ -17,7 +17,7 @@ ghost use Rattle.raw_schedule.specs.Whole.{IsSetFor};
 
 use crate::parts::{around, beside, parts};
 use crate::whole::whole_set;
-use raw_codegen::SCRIPT_LIMIT;
+use raw_codegen::PARTS_LIMIT;
 use raw_flow::Flow;
 use raw_frame::{Part, Table};
 use raw_graph::{Graph, graphs_of};
@@ -27,7 +27,7 @@ use raw_place::{Rule, Style, place, ranks};
 use std::alloc::{AllocError, Global};
 
 /// The most cycles of a schedule: more than a program has instructions.
-const MOST: usize = SCRIPT_LIMIT as usize;
+const MOST: usize = PARTS_LIMIT as usize;
 
 /// The placements that are tried on each part.
 const STYLES: [Style; 4] = [

@@ -3,7 +3,7 @@ ghost use Rattle.std.specs.Prelude.{◌≡◌, ◌≤◌, ◌∷◌, [], length,
 ghost use Rattle.raw_schedule.specs.Whole.{IsSetFor};
 
 use crate::giving::{Unfit, whole_programs};
-use raw_codegen::{SCRIPT_LIMIT, law_lawful_parts, words_fit};
+use raw_codegen::{PARTS_LIMIT, law_lawful_parts, words_fit};
 use raw_flow::{Flow, MAX_NODES};
 use raw_frame::Part;
 use raw_grid::Topo;
@@ -49,7 +49,7 @@ fn set_of(
     let ports = ports(alloc, inputs, flow.outs.len() as u32)?;
     Ok(Set {
         topo,
-        limit: SCRIPT_LIMIT,
+        limit: PARTS_LIMIT,
         depth: DEFAULT_DEPTH,
         ports,
         tiles,

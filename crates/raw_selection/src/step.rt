@@ -7,7 +7,7 @@ use raw_tile_isa::{TileIns, TileOp, is_short};
 
 /// An operation as one instruction does it, before its registers are known.
 #[derive(Clone, Copy)]
-pub enum Step {
+pub enum Operation {
     /// On two registers, in the order in which they are read.
     Registers {
         op: FlowOp,
@@ -34,7 +34,7 @@ fn low_half(word: u32) -> u16 {
 }
 
 // The operation, if an immediate can stand for a word that is its second operand.
-fn with_word(op: FlowOp, first: Operand, word: u32) -> Option<Step> {
+fn with_word(op: FlowOp, first: Operand, word: u32) -> Option<Operation> {
     let minus = 0_u32.wrapping_sub(word);
     let (op, low, fits) = match op {
         FlowOp::Add => (op, word, word != 0 && is_short(word)),
@@ -45,7 +45,7 @@ fn with_word(op: FlowOp, first: Operand, word: u32) -> Option<Step> {
     };
     if fits {
         let low = low_half(low);
-        Some(Step::Immediate { op, first, low })
+        Some(Operation::Immediate { op, first, low })
     } else {
         None
     }
@@ -60,16 +60,16 @@ fn is_shift(op: FlowOp) -> bool {
 }
 
 // The operation on two registers: a shift reads the amount first.
-fn on_registers(op: FlowOp, a: Operand, b: Operand) -> Step {
+fn on_registers(op: FlowOp, a: Operand, b: Operand) -> Operation {
     let (first, second) = if is_shift(op) { (b, a) } else { (a, b) };
-    Step::Registers { op, first, second }
+    Operation::Registers { op, first, second }
 }
 
 // The operation with a word as its second operand.
-fn on_word(op: FlowOp, a: Operand, word: u32) -> Step {
+fn on_word(op: FlowOp, a: Operand, word: u32) -> Operation {
     if is_shift(op) {
         let amount = (word & 31) as u8;
-        return Step::Shift {
+        return Operation::Shift {
             op,
             first: a,
             amount,
@@ -82,7 +82,7 @@ fn on_word(op: FlowOp, a: Operand, word: u32) -> Step {
 }
 
 /// The instruction of a value that is made.
-pub fn step_of(origin: Origin) -> Option<Step> {
+pub fn step_of(origin: Origin) -> Option<Operation> {
     match origin {
         Origin::Input(_) => None,
         Origin::Made {
@@ -113,31 +113,31 @@ pub fn constant_of(op: FlowOp, a: Operand, b: Operand) -> Option<u32> {
     second.or(in_register(step.first()))
 }
 
-impl Step {
+impl Operation {
     /// What is read from the first register.
     pub fn first(self) -> Operand {
         match self {
-            Step::Registers { first, .. } => first,
-            Step::Immediate { first, .. } => first,
-            Step::Shift { first, .. } => first,
+            Operation::Registers { first, .. } => first,
+            Operation::Immediate { first, .. } => first,
+            Operation::Shift { first, .. } => first,
         }
     }
 
     /// What is read from the second register, if there is one.
     pub fn second(self) -> Option<Operand> {
         match self {
-            Step::Registers { second, .. } => Some(second),
-            Step::Immediate { .. } => None,
-            Step::Shift { .. } => None,
+            Operation::Registers { second, .. } => Some(second),
+            Operation::Immediate { .. } => None,
+            Operation::Shift { .. } => None,
         }
     }
 
     /// Whether the operands may change places.
     pub fn commutes(self) -> bool {
         match self {
-            Step::Registers { op, .. } => commutes(op),
-            Step::Immediate { .. } => false,
-            Step::Shift { .. } => false,
+            Operation::Registers { op, .. } => commutes(op),
+            Operation::Immediate { .. } => false,
+            Operation::Shift { .. } => false,
         }
     }
 
@@ -145,9 +145,9 @@ impl Step {
     pub fn instruction(self, to: u8, first: u8, second: u8) -> TileIns {
         let (to, first, second) = (register(to), register(first), register(second));
         match self {
-            Step::Registers { op, .. } => registers(op, to, first, second),
-            Step::Immediate { op, low, .. } => immediate(op, to, first, low),
-            Step::Shift { op, amount, .. } => shift(op, to, first, register(amount)),
+            Operation::Registers { op, .. } => registers(op, to, first, second),
+            Operation::Immediate { op, low, .. } => immediate(op, to, first, low),
+            Operation::Shift { op, amount, .. } => shift(op, to, first, register(amount)),
         }
     }
 }

@@ -2,16 +2,16 @@
 //! a call, and a sink that gathers what is put.
 #![tactic(auto)]
 
+mod arguments;
 mod ending;
 mod failure;
 mod gathered;
 mod opening;
 mod saying;
-mod words;
 
+pub use arguments::{FixedText, fixed_text, workers_of};
 pub use ending::{Ending, ending_of};
 pub use failure::{Failure, Flaw};
 pub use gathered::Gathered;
 pub use opening::words_of;
 pub use saying::{Answer, conclude, conclude_gathered, end_with, put_refused};
-pub use words::{FixedText, fixed_text, workers_of};

@@ -133,8 +133,8 @@ pub no_placed : {A : Type 0} (f : ℕ × A → List ℕ) (from : ℕ) (xs : List
 no_placed f from xs i le = no_text f (enumerate_from from xs) i (omega (arith, le, length-enumerate_from from xs))
 
 -- seven parts, one after another
-pub seven : (a b c d e f g : List ℕ) → a ++ b ++ c ++ d ++ e ++ f ++ g ≡ a ++ (b ++ (c ++ (d ++ (e ++ (f ++ g)))))
-seven a b c d e f g =
+pub seven_parts : (a b c d e f g : List ℕ) → a ++ b ++ c ++ d ++ e ++ f ++ g ≡ a ++ (b ++ (c ++ (d ++ (e ++ (f ++ g)))))
+seven_parts a b c d e f g =
     append_assoc (a ++ b ++ c ++ d ++ e) f g
     ∙ append_assoc (a ++ b ++ c ++ d) e (f ++ g)
     ∙ append_assoc (a ++ b ++ c) d (e ++ (f ++ g))

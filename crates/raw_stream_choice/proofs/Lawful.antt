@@ -13,7 +13,7 @@ use Rattle.raw_grid.specs.Topology.{Topology, IsTopology, tile_count}
 use Rattle.raw_model.specs.declared.limits.TheConstants.{DEFAULT_DEPTH, MAX_STEPS}
 use Rattle.raw_model.specs.declared.program.Show.{Show}
 use Rattle.raw_model.specs.Program.{ProgramSet, TileProgram, IsTileProgram, HaveWires, PortProgram, IsPortProgram, IsOfKind, AreOfKinds, IsShow, IsSet}
-use Rattle.raw_codegen.specs.Script.{Part, script_program, script_programs}
+use Rattle.raw_codegen.specs.Parts.{Part, script_program, script_programs}
 use Rattle.raw_codegen.specs.Lawful.{AreParts}
 use Rattle.raw_codegen.specs.Limits.{AreShort}
 use Rattle.raw_stream.specs.Streams.{Stream}

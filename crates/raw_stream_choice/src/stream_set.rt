@@ -1,6 +1,6 @@
 //! The sets with the grid of a stream.
 ghost use Rattle.std.specs.Prelude.{◌≡◌, [], IfOk, IfSome};
-ghost use Rattle.raw_codegen.specs.Script.{script_programs};
+ghost use Rattle.raw_codegen.specs.Parts.{script_programs};
 ghost use Rattle.raw_codegen.specs.Limits.{AreShort};
 ghost use Rattle.raw_stream_choice.specs.StreamSets.{ArePortsFor, IsSetWith};
 

@@ -27,7 +27,7 @@ use Rattle.raw_stream_text.specs.Seated.{IsNear}
 use Rattle.raw_stream_text.specs.Statement.{Statement}
 use Rattle.raw_stream_text.specs.Streams.{FedStream, size_of, size_in, count_in, source_of, sink_of, names_in, sources_in, sinks_in, node_of, out_of, feeds_in, words_of_all, stream_by, fed_by}
 use Rattle.raw_stream_text.specs.Faults.{is_off_edge, are_fed, whole_fault, end_fault}
-use Rattle.raw_stream_text.specs.Building.{IsNamed, Stands, feed_in}
+use Rattle.raw_stream_text.specs.Building.{IsNamed, BuilderStands, feed_in}
 use Rattle.raw_stream_text.proofs.Edges.{all_once}
 use Rattle.raw_stream_text.proofs.Next.{few_said}
 use Rattle.raw_stream_text.proofs.Sound.{IsGrid, IsSeat, AreSound}
@@ -54,10 +54,10 @@ pub near_sinks : (claimed : Option Topology) (all : List Statement) → AreSound
 near_sinks claimed all are = all_once IsNear [] (filter_map sink_of all) (All-nil IsNear) (near_all (filter_map size_of all) (filter_map sink_of all) are.sizes are.sinks)
 
 -- no more nodes and outs than statements
-pub few_nodes : (builder : Builder) (all : List Statement) (n : ℕ) → length all ≤ n → Stands builder all all → length builder.nodes.items ≤ n
+pub few_nodes : (builder : Builder) (all : List Statement) (n : ℕ) → length all ≤ n → BuilderStands builder all all → length builder.nodes.items ≤ n
 few_nodes builder all n few stands = omega (arith, few, ap length stands.nodes, few_said (node_of (names_in all) (sources_in all)) all)
 
-pub few_outs : (builder : Builder) (all : List Statement) (n : ℕ) → length all ≤ n → Stands builder all all → length builder.outs.items ≤ n
+pub few_outs : (builder : Builder) (all : List Statement) (n : ℕ) → length all ≤ n → BuilderStands builder all all → length builder.outs.items ≤ n
 few_outs builder all n few stands = omega (arith, few, ap length stands.outs, few_said (out_of (names_in all) (sinks_in all)) all)
 
 -- ---- answers
@@ -78,7 +78,7 @@ made size many sources sinks nodes outs = record { cols = size.0; rows = size.1;
 abbrev pub fed_with : Stream → List ℕ → FedStream
 fed_with stream words = record { stream = stream; words = words }
 
-module _ (claimed : Option Topology) (builder : Builder) (named : Named) (all : List Statement) (is : IsNamed named all) (stands : Stands builder all all)
+module _ (claimed : Option Topology) (builder : Builder) (named : Named) (all : List Statement) (is : IsNamed named all) (stands : BuilderStands builder all all)
     (size : ℕ × ℕ) (many : ℕ) (sized : builder.size ≡ Some size) (counted : builder.count ≡ Some many) where
   pub built : (sources sinks : List PortPlace) → sources ≡ places_of kind.Source named.sources → sinks ≡ places_of kind.Sink named.sinks
       → made size many sources sinks builder.nodes.items builder.outs.items ≡ stream_by all

@@ -34,7 +34,7 @@ use Rattle.raw_stream_text.specs.Statement.Statement.{Flow, Rows, Input, Pre, Ou
 use Rattle.raw_stream_text.specs.Forms.{line_statement}
 use Rattle.raw_stream_text.specs.Streams.{size_of, size_in, count_of, count_in, name_of, names_in, sources_in, sinks_in, node_of, out_of, feed_of}
 use Rattle.raw_stream_text.specs.Faults.{is_off_edge, is_unclaimed, is_unwanted, has_name, statement_fault, form_fault, due_word, is_missing, line_fault}
-use Rattle.raw_stream_text.specs.Building.{IsNamed, feed_in, Stands, AddsNode, AddsOut, AddsFeed, Adds, number_below, seat_fault}
+use Rattle.raw_stream_text.specs.Building.{IsNamed, feed_in, BuilderStands, AddsNode, AddsOut, AddsFeed, Adds, number_below, seat_fault}
 use Rattle.raw_stream_text.proofs.Fronts.{front_number, below_is}
 
 -- ---- one statement more
@@ -48,13 +48,13 @@ first_push : {X : Type 0} (xs : List X) (x : X) → is_some (slice_get xs 0) ≡
 first_push [] x none = refl
 first_push (y ∷ xs) x none = absurd (cc none)
 
-module _ (old new : Builder) (all said : List Statement) (statement : Statement) (stands : Stands old all said) where
+module _ (old new : Builder) (all said : List Statement) (statement : Statement) (stands : BuilderStands old all said) where
   extended : new.size ≡ slice_get (filter_map size_of said ++ option_to_list (size_of statement)) 0
       → new.count ≡ slice_get (filter_map count_of said ++ option_to_list (count_of statement)) 0
       → new.nodes.items ≡ old.nodes.items ++ option_to_list (node_of (names_in all) (sources_in all) statement)
       → new.outs.items ≡ old.outs.items ++ option_to_list (out_of (names_in all) (sinks_in all) statement)
       → map feed_in new.feeds.items ≡ map feed_in old.feeds.items ++ option_to_list (feed_of (sources_in all) statement)
-      → Stands new all (said ++ statement ∷ [])
+      → BuilderStands new all (said ++ statement ∷ [])
   extended size count nodes outs feeds = record {
     size = size ∙ ap (λ sizes. slice_get sizes 0) (sym (filter_next size_of said statement));
     count = count ∙ ap (λ counts. slice_get counts 0) (sym (filter_next count_of said statement));
@@ -80,37 +80,37 @@ module _ (old new : Builder) (all said : List Statement) (statement : Statement)
 
   -- nothing is added
   pub nothing_added : new ≡ old → size_of statement ≡ None → count_of statement ≡ None → node_of (names_in all) (sources_in all) statement ≡ None
-      → out_of (names_in all) (sinks_in all) statement ≡ None → feed_of (sources_in all) statement ≡ None → Stands new all (said ++ statement ∷ [])
+      → out_of (names_in all) (sinks_in all) statement ≡ None → feed_of (sources_in all) statement ≡ None → BuilderStands new all (said ++ statement ∷ [])
   nothing_added same size count node out feed =
       extended (same_size (ap (λ b. b.size) same) size) (same_count (ap (λ b. b.count) same) count) (same_nodes (ap (λ b. b.nodes) same) node) (same_outs (ap (λ b. b.outs) same) out)
       (same_feeds (ap (λ b. b.feeds) same) feed)
 
   pub grid_added : (size : ℕ × ℕ) → is_some (size_in said) ≡ false → new.size ≡ Some size → new.count ≡ old.count → new.nodes ≡ old.nodes → new.outs ≡ old.outs → new.feeds ≡ old.feeds
       → size_of statement ≡ Some size → count_of statement ≡ None → node_of (names_in all) (sources_in all) statement ≡ None
-      → out_of (names_in all) (sinks_in all) statement ≡ None → feed_of (sources_in all) statement ≡ None → Stands new all (said ++ statement ∷ [])
+      → out_of (names_in all) (sinks_in all) statement ≡ None → feed_of (sources_in all) statement ≡ None → BuilderStands new all (said ++ statement ∷ [])
   grid_added size free is counts nodes outs feeds says count node out feed =
       extended (is ∙ sym (first_push (filter_map size_of said) size free) ∙ ap (λ o. slice_get (filter_map size_of said ++ option_to_list o) 0) (sym says))
       (same_count counts count) (same_nodes nodes node) (same_outs outs out) (same_feeds feeds feed)
 
   pub rows_added : (many : ℕ) → is_some (count_in said) ≡ false → new.count ≡ Some many → new.size ≡ old.size → new.nodes ≡ old.nodes → new.outs ≡ old.outs → new.feeds ≡ old.feeds
       → count_of statement ≡ Some many → size_of statement ≡ None → node_of (names_in all) (sources_in all) statement ≡ None
-      → out_of (names_in all) (sinks_in all) statement ≡ None → feed_of (sources_in all) statement ≡ None → Stands new all (said ++ statement ∷ [])
+      → out_of (names_in all) (sinks_in all) statement ≡ None → feed_of (sources_in all) statement ≡ None → BuilderStands new all (said ++ statement ∷ [])
   rows_added many free is sizes nodes outs feeds says size node out feed =
       extended (same_size sizes size) (is ∙ sym (first_push (filter_map count_of said) many free) ∙ ap (λ o. slice_get (filter_map count_of said ++ option_to_list o) 0) (sym says))
       (same_nodes nodes node) (same_outs outs out) (same_feeds feeds feed)
 
   pub node_added : (node : RowNode) → AddsNode old new node → node_of (names_in all) (sources_in all) statement ≡ Some node → size_of statement ≡ None → count_of statement ≡ None
-      → out_of (names_in all) (sinks_in all) statement ≡ None → feed_of (sources_in all) statement ≡ None → Stands new all (said ++ statement ∷ [])
+      → out_of (names_in all) (sinks_in all) statement ≡ None → feed_of (sources_in all) statement ≡ None → BuilderStands new all (said ++ statement ∷ [])
   node_added node adds says size count out feed =
       extended (same_size adds.size size) (same_count adds.count count) (adds.nodes ∙ ap (λ o. old.nodes.items ++ option_to_list o) (sym says)) (same_outs adds.outs out) (same_feeds adds.feeds feed)
 
   pub out_added : (out : StreamOut) → AddsOut old new out → out_of (names_in all) (sinks_in all) statement ≡ Some out → size_of statement ≡ None → count_of statement ≡ None
-      → node_of (names_in all) (sources_in all) statement ≡ None → feed_of (sources_in all) statement ≡ None → Stands new all (said ++ statement ∷ [])
+      → node_of (names_in all) (sources_in all) statement ≡ None → feed_of (sources_in all) statement ≡ None → BuilderStands new all (said ++ statement ∷ [])
   out_added out adds says size count node feed =
       extended (same_size adds.size size) (same_count adds.count count) (same_nodes adds.nodes node) (adds.outs ∙ ap (λ o. old.outs.items ++ option_to_list o) (sym says)) (same_feeds adds.feeds feed)
 
   pub feed_added : (fed : ℕ × List ℕ) → AddsFeed old new fed → feed_of (sources_in all) statement ≡ Some fed → size_of statement ≡ None → count_of statement ≡ None
-      → node_of (names_in all) (sources_in all) statement ≡ None → out_of (names_in all) (sinks_in all) statement ≡ None → Stands new all (said ++ statement ∷ [])
+      → node_of (names_in all) (sources_in all) statement ≡ None → out_of (names_in all) (sinks_in all) statement ≡ None → BuilderStands new all (said ++ statement ∷ [])
   feed_added fed adds says size count node out =
       extended (same_size adds.size size) (same_count adds.count count) (same_nodes adds.nodes node) (same_outs adds.outs out) (adds.feeds ∙ ap (λ o. map feed_in old.feeds.items ++ option_to_list o) (sym says))
 
@@ -130,7 +130,7 @@ count names sources (Out name edge ∷ said) = count names sources said
 count names sources (Feed edge words ∷ said) = count names sources said
 
 -- the number of a name that a line before defines
-module _ (builder : Builder) (named : Named) (all said rest : List Statement) (split : all ≡ said ++ rest) (is : IsNamed named all) (stands : Stands builder all said) where
+module _ (builder : Builder) (named : Named) (all said rest : List Statement) (split : all ≡ said ++ rest) (is : IsNamed named all) (stands : BuilderStands builder all said) where
   pub found : (name : List ℕ) → number_below (length builder.nodes.items) (value_in named.numbers name) ≡ number_in (names_in said) name
   found name =
       let long : length builder.nodes.items ≡ length (names_in said) = ap length stands.nodes ∙ count (names_in all) (sources_in all) said in
@@ -159,7 +159,7 @@ told (At line kind) number first next whole same answers = (answers.0, same ∙ 
 told Memory number first next whole same answers = tt
 
 pub refused : {T : Type 0} (old new : Builder) (claimed : Option Topology) (all : List Statement) (line : ℕ) (result : Result T SetRefusal) (refusal : SetRefusal) (statement : Statement) → IsErrAnd result (λ other. other ≡ refusal)
-    → ((said rest : List Statement) → all ≡ said ++ statement ∷ rest → Stands old all said → Answers {T = T} (Err refusal) line (statement_fault claimed all said statement))
+    → ((said rest : List Statement) → all ≡ said ++ statement ∷ rest → BuilderStands old all said → Answers {T = T} (Err refusal) line (statement_fault claimed all said statement))
     → Adds old new claimed all line result statement
 refused old new claimed all line (Ok done) refusal statement is fault = absurd is
 refused {T} old new claimed all line (Err other) refusal statement is fault =
@@ -167,7 +167,7 @@ refused {T} old new claimed all line (Err other) refusal statement is fault =
 
 -- a refusal by its kind
 pub says : (old new : Builder) (claimed : Option Topology) (all : List Statement) (line : ℕ) (why : SetRefusal) (statement : Statement) (kind : SetKind) → why ≡ At line kind
-    → ((said rest : List Statement) → all ≡ said ++ statement ∷ rest → Stands old all said → statement_fault claimed all said statement ≡ Some kind)
+    → ((said rest : List Statement) → all ≡ said ++ statement ∷ rest → BuilderStands old all said → statement_fault claimed all said statement ≡ Some kind)
     → Adds {T = Unit {0}} old new claimed all line (Err why) statement
 says old new claimed all line why statement kind is fault =
     subst (λ r. Adds {T = Unit {0}} old new claimed all line (Err r) statement) (sym is) (record { fault = λ said rest split stands. (refl, fault said rest split stands); stands = λ said rest split stands. tt })
@@ -183,7 +183,7 @@ two_faults false true x y next = refl
 two_faults false false x y next = refl
 
 -- a name that is new
-pub new_first : (builder : Builder) (named : Named) (all said rest : List Statement) → all ≡ said ++ rest → IsNamed named all → Stands builder all said → (name : List ℕ) (next : Option SetKind)
+pub new_first : (builder : Builder) (named : Named) (all said rest : List Statement) → all ≡ said ++ rest → IsNamed named all → BuilderStands builder all said → (name : List ℕ) (next : Option SetKind)
     → fault_if (has_name said name) Repeated next ≡ option_or (fault_if (is_some (number_below (length builder.nodes.items) (value_in named.numbers name))) Repeated None) next
 new_first builder named all said rest split is stands name next =
     let read = number_below (length builder.nodes.items) (value_in named.numbers name) in
@@ -242,7 +242,7 @@ module _ (claimed : Option Topology) (builder : Builder) (all said : List Statem
       ap (λ n. cond (eqb n 0) None (cond (is_missing (due_word (size_in said) (count_in said)) (get_or line 0 [])) (Some Missing) (form_fault claimed all said (line_statement line)))) none
 
   -- a line with tokens, by the word that is due
-  begun : Stands builder all said → 0 < length line → (test : Bool) → is_missing (due_word builder.size builder.count) (get_or line 0 []) ≡ test
+  begun : BuilderStands builder all said → 0 < length line → (test : Bool) → is_missing (due_word builder.size builder.count) (get_or line 0 []) ≡ test
       → line_fault claimed all said line ≡ cond test (Some Missing) (form_fault claimed all said (line_statement line))
   unfolding line_fault
   begun stands some test due =
@@ -252,14 +252,14 @@ module _ (claimed : Option Topology) (builder : Builder) (all said : List Statem
       ∙ ap (λ many. cond (is_missing (due_word builder.size many) (get_or line 0 [])) (Some Missing) (form_fault claimed all said (line_statement line))) (sym stands.count)
       ∙ ap (λ b. cond b (Some Missing) (form_fault claimed all said (line_statement line))) due
 
-  pub line_missing : Stands builder all said → 0 < length line → is_missing (due_word builder.size builder.count) (get_or line 0 []) ≡ true → line_fault claimed all said line ≡ Some Missing
+  pub line_missing : BuilderStands builder all said → 0 < length line → is_missing (due_word builder.size builder.count) (get_or line 0 []) ≡ true → line_fault claimed all said line ≡ Some Missing
   line_missing stands some due = begun stands some true due
 
-  pub line_bad : Stands builder all said → 0 < length line → is_missing (due_word builder.size builder.count) (get_or line 0 []) ≡ false → line_statement line ≡ None → line_fault claimed all said line ≡ Some BadLine
+  pub line_bad : BuilderStands builder all said → 0 < length line → is_missing (due_word builder.size builder.count) (get_or line 0 []) ≡ false → line_statement line ≡ None → line_fault claimed all said line ≡ Some BadLine
   line_bad stands some due none = begun stands some false due ∙ ap (form_fault claimed all said) none
 
   module _ {T : Type 0} (new : Builder) (number : ℕ) (result : Result T SetRefusal) (statement : Statement) (rest : List Statement) (says_it : line_statement line ≡ Some statement)
-      (adds : Adds builder new claimed all number result statement) (split : all ≡ said ++ (option_to_list (line_statement line) ++ rest)) (stands : Stands builder all said) where
+      (adds : Adds builder new claimed all number result statement) (split : all ≡ said ++ (option_to_list (line_statement line) ++ rest)) (stands : BuilderStands builder all said) where
     split_is : all ≡ said ++ statement ∷ rest
     split_is = split ∙ ap (λ o. said ++ (option_to_list o ++ rest)) says_it
 
@@ -267,5 +267,5 @@ module _ (claimed : Option Topology) (builder : Builder) (all said : List Statem
     line_answers some due =
         subst (Answers result number) (sym (begun stands some false due ∙ ap (form_fault claimed all said) says_it)) (adds.fault said rest split_is stands)
 
-    pub line_stands : OnOk result (Stands new all (said ++ option_to_list (line_statement line)))
-    line_stands = subst (λ o. OnOk result (Stands new all (said ++ option_to_list o))) (sym says_it) (adds.stands said rest split_is stands)
+    pub line_stands : OnOk result (BuilderStands new all (said ++ option_to_list (line_statement line)))
+    line_stands = subst (λ o. OnOk result (BuilderStands new all (said ++ option_to_list o))) (sym says_it) (adds.stands said rest split_is stands)

@@ -58,7 +58,7 @@ abbrev pub feed_in : Fed → ℕ × List ℕ
 feed_in fed = (fed.port, fed.words.items)
 
 -- a stream that is being built, for these statements of a text that has all of those
-pub record Stands (builder : Builder) (all said : List Statement) : Type 0 where
+pub record BuilderStands (builder : Builder) (all said : List Statement) : Type 0 where
   pub size : builder.size ≡ size_in said
   pub count : builder.count ≡ count_in said
   pub nodes : builder.nodes.items ≡ filter_map (node_of (names_in all) (sources_in all)) said
@@ -98,5 +98,5 @@ seat_fault claimed size kind edge = fault_if (is_off_edge size edge) PortOffEdge
 
 -- the next statement of a text is added, or the line of this number refused with its fault
 pub record Adds {T : Type 0} (old new : Builder) (claimed : Option Topology) (all : List Statement) (number : ℕ) (result : Result T SetRefusal) (statement : Statement) : Type 0 where
-  pub fault : (said rest : List Statement) → all ≡ said ++ statement ∷ rest → Stands old all said → Answers result number (statement_fault claimed all said statement)
-  pub stands : (said rest : List Statement) → all ≡ said ++ statement ∷ rest → Stands old all said → OnOk result (Stands new all (said ++ statement ∷ []))
+  pub fault : (said rest : List Statement) → all ≡ said ++ statement ∷ rest → BuilderStands old all said → Answers result number (statement_fault claimed all said statement)
+  pub stands : (said rest : List Statement) → all ≡ said ++ statement ∷ rest → BuilderStands old all said → OnOk result (BuilderStands new all (said ++ statement ∷ []))

@@ -15,7 +15,7 @@ ghost use Rattle.raw_stream_text.specs.Statement.{Statement, said_by};
 ghost use Rattle.raw_stream_text.specs.Statement.Statement.{Flow, Rows, Input, Pre, Out, Feed};
 ghost use Rattle.raw_stream_text.specs.Forms.{line_statement};
 ghost use Rattle.raw_stream_text.specs.Faults.{is_unwanted, is_bad_size, is_off, is_unclaimed, due_word, is_missing, line_fault};
-ghost use Rattle.raw_stream_text.specs.Building.{IsNamed, feed_in, Stands, AddsNode, AddsOut, AddsFeed, Adds, number_below, seat_fault};
+ghost use Rattle.raw_stream_text.specs.Building.{IsNamed, feed_in, BuilderStands, AddsNode, AddsOut, AddsFeed, Adds, number_below, seat_fault};
 
 use crate::forms::read_line;
 use crate::line::Line;
@@ -162,7 +162,7 @@ fn expect_seat(
 impl Builder {
     /// A stream of which no line is added yet.
     pub(crate) fn new(alloc: Global) -> Builder
-        ensures { (all : List Statement) → Stands result all [] }
+        ensures { (all : List Statement) → BuilderStands result all [] }
     {
         Builder {
             size: None,
@@ -440,9 +440,9 @@ impl Builder {
         line: &Tokens<'_>,
     ) -> Result<(), SetRefusal>
         ensures fault { (all said rest : List Statement) → IsNamed named.now all → all ≡ said ++ (option_to_list (line_statement (tokens_of line.now)) ++ rest) →
-            Stands self.old all said → Answers result number (line_fault (option_map (λ topo. topo.now) claimed.entry) all said (tokens_of line.now)) }
+            BuilderStands self.old all said → Answers result number (line_fault (option_map (λ topo. topo.now) claimed.entry) all said (tokens_of line.now)) }
         ensures stands { (all said rest : List Statement) → IsNamed named.now all → all ≡ said ++ (option_to_list (line_statement (tokens_of line.now)) ++ rest) →
-            Stands self.old all said → OnOk result (Stands self.new all (said ++ option_to_list (line_statement (tokens_of line.now)))) }
+            BuilderStands self.old all said → OnOk result (BuilderStands self.new all (said ++ option_to_list (line_statement (tokens_of line.now)))) }
     {
         if line.len() == 0 {
             return Ok(());

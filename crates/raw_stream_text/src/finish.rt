@@ -6,7 +6,7 @@ ghost use Rattle.raw_stream_text.specs.Seated.{IsNear};
 ghost use Rattle.raw_stream_text.specs.Statement.{Statement};
 ghost use Rattle.raw_stream_text.specs.Streams.{words_to, words_of_all, fed_by};
 ghost use Rattle.raw_stream_text.specs.Faults.{are_fed, has_fewer, has_more, whole_fault, end_fault};
-ghost use Rattle.raw_stream_text.specs.Building.{feed_in, IsNamed, Stands};
+ghost use Rattle.raw_stream_text.specs.Building.{feed_in, IsNamed, BuilderStands};
 
 use crate::builder::{Builder, Fed, at};
 use crate::input::StreamInput;
@@ -119,8 +119,8 @@ impl Builder {
         requires outs { length self.outs.items < 2 ^ 32 }
         requires sources { All IsNear named.now.sources }
         requires sinks { All IsNear named.now.sinks }
-        ensures fault { (all : List Statement) → IsNamed named.now all → Stands self all all → Answers result end (end_fault (option_map (λ topo. topo.now) claimed.entry) all) }
-        ensures fed { (all : List Statement) → IsNamed named.now all → Stands self all all → IfOk result (λ input. input ≡ fed_by all) }
+        ensures fault { (all : List Statement) → IsNamed named.now all → BuilderStands self all all → Answers result end (end_fault (option_map (λ topo. topo.now) claimed.entry) all) }
+        ensures fed { (all : List Statement) → IsNamed named.now all → BuilderStands self all all → IfOk result (λ input. input ≡ fed_by all) }
     {
         let Some(size) = self.size else {
             return Err(at(end, SetKind::Missing));

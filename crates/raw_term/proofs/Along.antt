@@ -22,7 +22,7 @@ use Rattle.raw_term.proofs.Terms.{Holds, none_some, term_values}
 use Rattle.raw_term.proofs.Image.{Pairs, PairsSent, pairs_length, fronts_alike, AlikeAt, AlikeLocals, AlikeWires, local_at, wire_at}
 use Rattle.raw_term.proofs.TileTerms.{none_holds}
 use Rattle.raw_term.proofs.Rows.{AlikeLocal, RowMade, IsLawfulIns, row_made}
-use Rattle.raw_term.proofs.Steps.{Stands, takes_same, sends_same, stopped_same, ready_stands, step_stands, quiet_stands}
+use Rattle.raw_term.proofs.Steps.{TermsStand, takes_same, sends_same, stopped_same, ready_stands, step_stands, quiet_stands}
 use Rattle.raw_term.proofs.Start.{fed_room, start_stands}
 use Rattle.raw_model.proofs.Fed.{AllWords, all_at}
 use Rattle.raw_term.proofs.Claims.{lawful_of, cells_of}
@@ -161,7 +161,7 @@ module _ (each : EachGivesWords) (inputs : List ℕ) (set_ : ProgramSet) (nums w
   machine = record set_ { ports = words }
 
   abbrev pub StandsFor : TermState → MachineState → Type 0
-  StandsFor s t = Stands each inputs set_ nums words lawful room s t
+  StandsFor s t = TermsStand each inputs set_ nums words lawful room s t
 
   -- a step has the motion of the step with terms
   motion_stands : (s : TermState) (t : MachineState) (p : ℕ) → StandsFor s t → (e : TermState) → term_step numbers_ s p ≡ Some e
@@ -261,7 +261,7 @@ module _ (each : EachGivesWords) (set_ : ProgramSet) (valid : IsSet set_) (ins o
   way = way_of (numbered set_) n (first_run set_) free
 
   abbrev For : List ℕ → TermState → MachineState → Type 0
-  For inputs s t = Stands each inputs set_ nums2 (fed_ports set_.ports inputs) lawful2 (room2 inputs) s t
+  For inputs s t = TermsStand each inputs set_ nums2 (fed_ports set_.ports inputs) lawful2 (room2 inputs) s t
 
   begins : (inputs : List ℕ) → length inputs ≡ all_words set_ → AllWords inputs → For inputs first (start (fed set_ inputs))
   begins inputs many small = start_stands each inputs set_ lawful2 (cells_of inputs set_ valid) many small

@@ -41,7 +41,7 @@ use Rattle.raw_term.proofs.Image.{Pairs, pairs_up, pairs_push}
 use Rattle.raw_term.proofs.SwitchImage.{pairs_at}
 use Rattle.raw_term.proofs.TileTerms.{none_holds}
 use Rattle.raw_term.proofs.Rows.{IsLawfulIns}
-use Rattle.raw_term.proofs.Steps.{Stands, IsAt, IsSwept, sweeps_stand, ran_free, quiet_stands}
+use Rattle.raw_term.proofs.Steps.{TermsStand, IsAt, IsSwept, sweeps_stand, ran_free, quiet_stands}
 use Rattle.raw_term.proofs.Start.{HaveCells, fed_room, start_stands}
 use Rattle.raw_term.proofs.Ending.{miscount_stands, seen_stands, outcome_stands}
 
@@ -229,7 +229,7 @@ verdict_is_met laws set flow places n valid constants verdict inputs are =
     sweeps_stand each inputs set nums words lawful room sweeps_ (first_run set) (start machine) first proof.free in
     let steps : List ℕ = sweeps machine sweeps_ (start machine) in
     let t : MachineState = end_from machine (start machine) steps in
-    let stands : Stands each inputs set nums words lawful room r.at t = both.ends.stands in
+    let stands : TermsStand each inputs set nums words lawful room r.at t = both.ends.stands in
     let quiet : IsQuiet machine t = quiet_stands each inputs set nums words lawful room r.at t stands proof.rests in
     let is_set : IsSet machine = fed_set set inputs all valid in
     let done : outcome machine t ≡ Done = sym (outcome_stands each inputs set nums words lawful room r.at t stands) ∙ proof.done in

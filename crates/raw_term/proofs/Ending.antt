@@ -29,7 +29,7 @@ use Rattle.raw_term.proofs.Image.{Pairs, AlikeLocals, AlikeAt, local_at, wire_at
 use Rattle.raw_term.proofs.SwitchImage.{pairs_at}
 use Rattle.raw_term.proofs.TileTerms.{none_holds}
 use Rattle.raw_term.proofs.Rows.{AlikeLocal, each_kind, IsLawfulIns}
-use Rattle.raw_term.proofs.Steps.{Stands, takes_same, sends_same, stopped_same}
+use Rattle.raw_term.proofs.Steps.{TermsStand, takes_same, sends_same, stopped_same}
 
 -- the first places at which tests pass that agree
 module _ {L M : Type 0} (R : L → M → Type 0) (f : L → Bool) (g : M → Bool) (same : (l : L) (m : M) → R l m → f l ≡ g m) where
@@ -137,7 +137,7 @@ module _ (values : List ℕ) (none : Holds values 0 0) where
 
 module _ (each : EachGivesWords) (inputs : List ℕ) (set_ : ProgramSet) (nums words : List PortProgram) (lawful : (p : ℕ) (i : ℕ) → IsLawfulIns (slice_get (tile_code set_ p) i))
     (room : (p : ℕ) → capacity_of (port_program (record set_ { ports = nums }) p) ≡ capacity_of (port_program (record set_ { ports = words }) p))
-    (s : TermState) (t : MachineState) (h : Stands each inputs set_ nums words lawful room s t) where
+    (s : TermState) (t : MachineState) (h : TermsStand each inputs set_ nums words lawful room s t) where
   abbrev numbers : ProgramSet
   numbers = record set_ { ports = nums }
 

@@ -31,7 +31,7 @@ use Rattle.raw_term.proofs.Forms.{word_made}
 use Rattle.raw_term.proofs.Image.{Pairs, AlikeLocals, AlikeWires, pairs_up}
 use Rattle.raw_term.proofs.TileTerms.{AlikeCore, none_holds, core_up, stored_alike}
 use Rattle.raw_term.proofs.Rows.{AlikeLocal, IsLawfulIns}
-use Rattle.raw_term.proofs.Steps.{local_up, Stands}
+use Rattle.raw_term.proofs.Steps.{local_up, TermsStand}
 
 -- the values of the first terms: 0, and the inputs
 module _ (inputs : List ℕ) where
@@ -236,7 +236,7 @@ wires_stand H (suc n) = (tt, wires_stand H n)
 -- the start of the machine with terms stands for the start of the machine
 pub start_stands : (each : EachGivesWords) (inputs : List ℕ) (set_ : ProgramSet) (lawful : (p : ℕ) (i : ℕ) → IsLawfulIns (slice_get (tile_code set_ p) i)) → HaveCells inputs set_.tiles
     → length inputs ≡ all_words set_ → ((i x : ℕ) → slice_get inputs i ≡ Some x → x < 2 ^ 32)
-    → Stands each inputs set_ (fed_ports set_.ports (range_with_len 1 (all_words set_))) (fed_ports set_.ports inputs) lawful
+    → TermsStand each inputs set_ (fed_ports set_.ports (range_with_len 1 (all_words set_))) (fed_ports set_.ports inputs) lawful
     (λ p. fed_room set_.ports (range_with_len 1 (all_words set_)) inputs (p - 2 * tile_count set_.topo)) (term_start set_) (start (fed set_ inputs))
 unfolding start term_start
 start_stands each inputs set_ lawful cells many small =

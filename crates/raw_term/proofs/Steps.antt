@@ -41,7 +41,7 @@ module _ (each : EachGivesWords) (inputs : List ℕ) (set_ : ProgramSet) (nums w
   AreFed values = (p : ℕ) → Pairs (Holds values) (words_of (port_program numbers p)) (words_of (port_program machine p))
 
   -- a state of the machine with terms whose values are a state of the machine
-  pub record Stands (s : TermState) (t : MachineState) : Type 0 where
+  pub record TermsStand (s : TermState) (t : MachineState) : Type 0 where
     pub terms : AreTerms inputs s.nodes
     pub has : (i x : ℕ) → slice_get inputs i ≡ Some x → Holds (term_values inputs s.nodes) (1 + i) x
     pub fed : AreFed (term_values inputs s.nodes)
@@ -73,19 +73,19 @@ module _ (each : EachGivesWords) (inputs : List ℕ) (set_ : ProgramSet) (nums w
         ∙ ap (λ n. nat_le n m.done) (pairs_length (Holds values) (words_of (port_program numbers p)) (words_of (port_program machine p)) (fed p)))
         (λ l m h. ap (λ n. nat_le (capacity_of (port_program numbers p)) n) h.0 ∙ ap (λ n. nat_le n m.done) (room p))
 
-  pub ready_stands : (s : TermState) (t : MachineState) (p : ℕ) → Stands s t → enabled numbers s.state p ≡ enabled machine t p
+  pub ready_stands : (s : TermState) (t : MachineState) (p : ℕ) → TermsStand s t → enabled numbers s.state p ≡ enabled machine t p
   unfolding machine_of
   ready_stands s t p h =
       let values : List ℕ = term_values inputs s.nodes in
       enabled_same (AlikeLocal values) (Holds values) (machine_of numbers) (machine_of machine) refl (stopped_same values h.fed) (takes_same values h.fed) (sends_same values h.fed) s.state t p h.alike
 
   -- a step
-  module _ (s : TermState) (t : MachineState) (p : ℕ) (h : Stands s t) (e : TermState) where
+  module _ (s : TermState) (t : MachineState) (p : ℕ) (h : TermsStand s t) (e : TermState) where
     abbrev V : List ℕ
     V = term_values inputs s.nodes
 
     row_stands : (l m : Local) (r : TermRow) → AlikeLocal V l m → term_row numbers s.nodes p l (fronts (takes numbers p l) s.state.wires) ≡ Some r
-        → Stands (after_row s.state p (takes numbers p l) r) (step_from (machine_of machine) t p (Some m))
+        → TermsStand (after_row s.state p (takes numbers p l) r) (step_from (machine_of machine) t p (Some m))
     unfolding machine_of
     row_stands l m r g is =
         let from : List ℕ = takes machine p m in
@@ -97,7 +97,7 @@ module _ (each : EachGivesWords) (inputs : List ℕ) (set_ : ProgramSet) (nums w
         let made : RowMade inputs s.nodes r (row machine p m ys) = row_made each inputs s.nodes h.terms set_ nums words lawful h.fed p l m xs ys r g given is' in
         let W : List ℕ = term_values inputs r.nodes in
         let lifted : Alike (AlikeLocal W) (Holds W) s.state t = alike_up (AlikeLocal V) (AlikeLocal W) (Holds V) (Holds W) (local_up V W made.keeps) made.keeps s.state t h.alike in
-        subst (λ (us : List ℕ). Stands (after_row s.state p us r) (step_from (machine_of machine) t p (Some m))) (sym same)
+        subst (λ (us : List ℕ). TermsStand (after_row s.state p us r) (step_from (machine_of machine) t p (Some m))) (sym same)
         (record {
           terms = made.terms;
           has = λ i x f. made.keeps (1 + i) x (h.has i x f);
@@ -106,17 +106,17 @@ module _ (each : EachGivesWords) (inputs : List ℕ) (set_ : ProgramSet) (nums w
         })
 
     maybe_row : (l m : Local) (o : Option TermRow) → AlikeLocal V l m → term_row numbers s.nodes p l (fronts (takes numbers p l) s.state.wires) ≡ o → option_map (after_row s.state p (takes numbers p l)) o ≡ Some e
-        → Stands e (step_from (machine_of machine) t p (Some m))
+        → TermsStand e (step_from (machine_of machine) t p (Some m))
     maybe_row l m None g is f = none_some e f
-    maybe_row l m (Some r) g is f = subst (λ k. Stands k (step_from (machine_of machine) t p (Some m))) (some_is (after_row s.state p (takes numbers p l) r) e f) (row_stands l m r g is)
+    maybe_row l m (Some r) g is f = subst (λ k. TermsStand k (step_from (machine_of machine) t p (Some m))) (some_is (after_row s.state p (takes numbers p l) r) e f) (row_stands l m r g is)
 
-    local_stands : (o q : Option Local) → AlikeAt (AlikeLocal V) o q → term_step_from numbers s p o ≡ Some e → Stands e (step_from (machine_of machine) t p q)
+    local_stands : (o q : Option Local) → AlikeAt (AlikeLocal V) o q → term_step_from numbers s p o ≡ Some e → TermsStand e (step_from (machine_of machine) t p q)
     local_stands None None g is = none_some e is
     local_stands None (Some m) g is = absurd g
     local_stands (Some l) None g is = absurd g
     local_stands (Some l) (Some m) g is = maybe_row l m (term_row numbers s.nodes p l (fronts (takes numbers p l) s.state.wires)) g refl is
 
-    pub step_stands : term_step numbers s p ≡ Some e → Stands e (step machine t p)
+    pub step_stands : term_step numbers s p ≡ Some e → TermsStand e (step machine t p)
     step_stands is = local_stands (slice_get s.state.locals p) (slice_get t.locals p) (local_at (AlikeLocal V) s.state.locals t.locals h.alike.locals p) is
 
   -- sweeps
@@ -127,7 +127,7 @@ module _ (each : EachGivesWords) (inputs : List ℕ) (set_ : ProgramSet) (nums w
   -- what a run is to be: it goes on, and it stands for a state of the machine
   pub record IsAt (r : TermRun) (t : MachineState) : Type 0 where
     pub free : r.broken ≡ None
-    pub stands : Stands r.at t
+    pub stands : TermsStand r.at t
 
   -- one that goes on from a state of the machine by these steps, before which there were so many
   pub record IsSwept (before : ℕ) (r : TermRun) (t : MachineState) (steps : List ℕ) : Type 0 where
@@ -207,5 +207,5 @@ module _ (each : EachGivesWords) (inputs : List ℕ) (set_ : ProgramSet) (nums w
       }
 
   -- and rest
-  pub quiet_stands : (s : TermState) (t : MachineState) → Stands s t → IsQuiet numbers s.state → IsQuiet machine t
+  pub quiet_stands : (s : TermState) (t : MachineState) → TermsStand s t → IsQuiet numbers s.state → IsQuiet machine t
   quiet_stands s t h quiet p = sym (ready_stands s t p h) ∙ quiet p

@@ -32,7 +32,7 @@ use std::thread;
 use std::thread::Threads;
 
 /// How many steps each worker has taken on earlier fabrics.
-pub(crate) type Told = [u64; MAX_WORKERS as usize];
+pub(crate) type StepCounts = [u64; MAX_WORKERS as usize];
 
 // The most turns that a processor has in a row, and the most such rows of it and its partners.
 const TURNS: u32 = 128;
@@ -219,7 +219,7 @@ fn drive<R: Clock, G: Gate>(
     fabric: &Fabric<'_>,
     pass: &mut Pass,
     activity: &Activity,
-    told: &Told,
+    told: &StepCounts,
     gate: &G,
 )
     requires { IsPassOf fabric.now pass.old }
@@ -244,7 +244,7 @@ pub(crate) fn drive_all<R: Threads + Clock + Sync, G: Gate>(
     fabric: &Fabric<'_>,
     passes: &mut [Pass],
     activity: &Activity,
-    told: &Told,
+    told: &StepCounts,
     deadline: u64,
     gate: &G,
 )

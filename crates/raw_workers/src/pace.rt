@@ -17,7 +17,7 @@
 //! Where the system puts threads decides how long workers take. A kernel that is started with `sched_vcpu_pack=15`, as
 //! that of the machine on which this was measured, keeps threads that have just begun together on few cores. No worker
 //! can change that.
-ghost use Rattle.raw_workers.specs.Ways.{IsWay};
+ghost use Rattle.raw_workers.specs.Ways.{IsNextRun};
 
 use crate::parallelism::Parallelism;
 use crate::rounds::{FIRST_LOG_STEPS, LOG_STEPS};
@@ -54,7 +54,7 @@ const MOST_PATIENCE: u64 = 1024;
 
 /// A way to run a machine for a while.
 #[derive(Clone, Copy, PartialEq, Eq)]
-pub(crate) enum Way {
+pub(crate) enum NextRun {
     /// On the thread of the caller, for so many steps.
     Alone {
         most: u64,
@@ -116,13 +116,13 @@ impl Pace {
     }
 
     /// The way to run for a while from this time on.
-    pub(crate) fn next(&mut self, time: u64) -> Way
-        ensures { IsWay result }
+    pub(crate) fn next(&mut self, time: u64) -> NextRun
+        ensures { IsNextRun result }
     {
         match self {
-            Pace::Serial => Way::Alone { most: u64::MAX },
+            Pace::Serial => NextRun::Alone { most: u64::MAX },
             Pace::Steady { workers, log_steps } => {
-                let way = Way::Together {
+                let way = NextRun::Together {
                     workers: *workers,
                     log_steps: *log_steps,
                     within: u64::MAX,
@@ -237,8 +237,8 @@ impl Trials {
     }
 
     // The way to run for a while from this time on.
-    fn next(&mut self, time: u64) -> Way
-        ensures { IsWay result }
+    fn next(&mut self, time: u64) -> NextRun
+        ensures { IsNextRun result }
     {
         let fastest = self.fastest();
         let next = self.number_of_next(fastest, time);
@@ -258,13 +258,13 @@ impl Trials {
                     self.log_steps
                 };
                 let steps = u64::from(log_steps) * u64::from(workers.count());
-                Way::Together {
+                NextRun::Together {
                     workers,
                     log_steps,
                     within: self.time_for(fastest, steps),
                 }
             }
-            None => Way::Alone {
+            None => NextRun::Alone {
                 most: self.steps.clamp(FEW_STEPS, MANY_STEPS),
             },
         }

@@ -10,7 +10,7 @@ ghost use Rattle.raw_steps.specs.Weaving.{steps_in};
 ghost use Rattle.raw_workers.specs.Rounds.{IsRound};
 
 use crate::activity::Activity;
-use crate::drive::{Told, drive_all};
+use crate::drive::{StepCounts, drive_all};
 use raw_fabric::{Fabric, Gate, MAX_WORKERS, PassLog, Workers};
 use raw_serial::{Machine, law_taken};
 use std::alloc::Global;
@@ -28,7 +28,7 @@ pub(crate) const LOG_STEPS: u32 = 262_144;
 #[derive(Drop)]
 pub(crate) struct Earlier {
     /// How many steps each worker has taken.
-    pub(crate) told: Told,
+    pub(crate) told: StepCounts,
     /// The logs of the last round, in whose memory those of the next are made.
     pub(crate) logs: Vec<PassLog>,
 }
@@ -44,7 +44,7 @@ impl Earlier {
 }
 
 // Adds the steps of a round to those that the workers had taken before.
-fn count_up(told: &mut Told, logs: &[PassLog]) {
+fn count_up(told: &mut StepCounts, logs: &[PassLog]) {
     for (count, log) in told.iter_mut().zip(logs.iter()) {
         *count = count.saturating_add(log.steps.len() as u64);
     }

@@ -12,7 +12,7 @@ ghost use Rattle.raw_serial.specs.Leading.{Leads, HasRun};
 ghost use Rattle.raw_workers.specs.Rounds.{HasAdvanced};
 
 use crate::activity::Activity;
-use crate::pace::{Pace, Way, time};
+use crate::pace::{NextRun, Pace, time};
 use crate::parallelism::Parallelism;
 use crate::rounds::{Earlier, Tally, has_steps, round};
 use crate::turns::serial_turn;
@@ -85,12 +85,12 @@ fn advance<'s, R: Threads + Clock + Sync, G: Gate>(
 {
     let from = time(rt);
     match pace.next(from) {
-        Way::Alone { most } => {
+        NextRun::Alone { most } => {
             let (machine, goes_on, steps) = advance_alone(machine, most);
             pace.took(steps, false, from, time(rt));
             (machine, goes_on)
         }
-        Way::Together {
+        NextRun::Together {
             workers,
             log_steps,
             within,

@@ -21,7 +21,7 @@ use Rattle.raw_set_text.specs.Listing.{placed_ports, set_lines, listing}
 use Rattle.raw_set_text.specs.Texts.{Meaning}
 use Rattle.raw_set_text.proofs.Listed.Lists.{is_most, all_join, at_place, nothing_left}
 use Rattle.raw_set_text.proofs.Listed.Entries.{port_entry, depth_entries, first_entries, port_entries, later_entries, set_entries}
-use Rattle.raw_set_text.proofs.Listed.Places.{Stands}
+use Rattle.raw_set_text.proofs.Listed.Places.{ListingStands}
 use Rattle.raw_set_text.proofs.Listed.Sections.{ListingLaws}
 use Rattle.raw_set_text.proofs.Listed.Steps.{CanFollow, entries_step}
 use Rattle.raw_set_text.proofs.Listed.Whole.{all_lines, lines_are, lines_whole, entries_whole}
@@ -50,7 +50,7 @@ module _ (laws : ListingLaws) (set : ProgramSet) (is : IsSet set) where
       ∙ ap (λ l. tokens (first_entries set) ++ l) (map-append tokens_of (all_lines (port_entries set)) (all_lines (later_entries set))
       ∙ ap (λ l. tokens (port_entries set) ++ l) (sym (append-nil (tokens (later_entries set)))))
 
-  begins : Stands lines lines []
+  begins : ListingStands lines lines []
   begins = record { k = 0; within = omega arith; behind = refl; outside = refl; so_far = refl; faultless = λ j lt. absurd (omega arith) }
 
   grid_follows : CanFollow [] (Grid set.topo.cols set.topo.rows)
@@ -109,11 +109,11 @@ module _ (laws : ListingLaws) (set : ProgramSet) (is : IsSet set) where
       can_follow set is before back entry whole (at_place (IsGood set) front entry back (subst (λ es. AllByRecursion (IsGood set) es) e (later_good set is))) (λ l. placed)
 
   -- all lines are read, and declare the entries of the set
-  ends : Stands lines [] (set_entries set)
+  ends : ListingStands lines [] (set_entries set)
   ends =
       let third = tokens (later_entries set) ++ [] in
       let second = tokens (port_entries set) ++ third in
-      let start = subst (λ l. Stands lines l []) cut begins in
+      let start = subst (λ l. ListingStands lines l []) cut begins in
       let one = entries_step laws lines second (first_entries set) [] (first_writable set is) first_follow start in
       let two = entries_step laws lines third (port_entries set) (first_entries set) (ports_writable set is) ports_follow one in
       entries_step laws lines [] (later_entries set) (first_entries set ++ port_entries set) (later_writable set is) later_follow two

@@ -21,7 +21,7 @@ one_more lines k before here j lt =
     ⊎_elim (λ (less : j < k). before j less) (λ (more : k ≤ j). let same : j ≡ k = omega arith in subst (λ i. fault_at lines i ≡ None) (sym same) here) (cases_lt j k)
 
 -- what stands before these lines: entries, no fault, and no section that is open
-pub record Stands (lines rest : List (List (List ℕ))) (entries : List Entry) : Type 0 where
+pub record ListingStands (lines rest : List (List (List ℕ))) (entries : List Entry) : Type 0 where
   pub k : ℕ
   pub within : k ≤ length lines
   pub behind : drop k lines ≡ rest
@@ -38,8 +38,8 @@ pub record Inside (lines : List (List (List ℕ))) (head : ℕ) (rest : List (Li
   pub faultless : AreFaultless lines k
 
 -- one line outside sections
-pub one_line : (lines rest : List (List (List ℕ))) (line : List (List ℕ)) (entries : List Entry) (entry : Entry) → Stands lines (line ∷ rest) entries
-    → line_entry line ≡ Some entry → is_section (Some entry) ≡ false → line_fault entries line ≡ None → Stands lines rest (entries ++ entry ∷ [])
+pub one_line : (lines rest : List (List (List ℕ))) (line : List (List ℕ)) (entries : List Entry) (entry : Entry) → ListingStands lines (line ∷ rest) entries
+    → line_entry line ≡ Some entry → is_section (Some entry) ≡ false → line_fault entries line ≡ None → ListingStands lines rest (entries ++ entry ∷ [])
 unfolding fault_at
 one_line lines rest line entries entry s reads plain fine =
     let at = at_drop lines s.k line [] rest s.behind in
@@ -53,7 +53,7 @@ one_line lines rest line entries entry s reads plain fine =
     }
 
 -- the head of a section
-pub head_line : (lines rest : List (List (List ℕ))) (line : List (List ℕ)) (entries : List Entry) (entry : Entry) → (s : Stands lines (line ∷ rest) entries)
+pub head_line : (lines rest : List (List (List ℕ))) (line : List (List ℕ)) (entries : List Entry) (entry : Entry) → (s : ListingStands lines (line ∷ rest) entries)
     → line_entry line ≡ Some entry → is_section (Some entry) ≡ true → line_fault entries line ≡ None → Inside lines s.k rest entries (suc s.k)
 unfolding fault_at
 head_line lines rest line entries entry s reads section fine =
@@ -94,7 +94,7 @@ inner_lines lines (line ∷ code) rest entries head k j s at goes_on fine =
 
 -- the end of a section
 pub end_line : (lines rest : List (List (List ℕ))) (line : List (List ℕ)) (entries : List Entry) (entry : Entry) (head k : ℕ) → Inside lines head (line ∷ rest) entries k → is_end line ≡ true
-    → section_entry entries (section_of lines head) (head_entry lines head) ≡ Some entry → entry_fault entries entry ≡ None → Stands lines rest (entries ++ entry ∷ [])
+    → section_entry entries (section_of lines head) (head_entry lines head) ≡ Some entry → entry_fault entries entry ≡ None → ListingStands lines rest (entries ++ entry ∷ [])
 unfolding fault_at
 end_line lines rest line entries entry head k s ends gives fine =
     let at = at_drop lines k line [] rest s.behind in

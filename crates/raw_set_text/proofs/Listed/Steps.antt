@@ -22,7 +22,7 @@ use Rattle.raw_set_text.specs.Listing.{line_of}
 use Rattle.raw_set_text.proofs.Listed.Entries.{word_of, operands_of, code_lines, entry_lines}
 use Rattle.raw_set_text.proofs.Listed.Tokens.{IsWritable, operands_short, line_tokens}
 use Rattle.raw_set_text.proofs.Listed.Reads.{head_of_entry, entry_back}
-use Rattle.raw_set_text.proofs.Listed.Places.{Stands, at_drop, one_line, head_line, inner_lines, end_line}
+use Rattle.raw_set_text.proofs.Listed.Places.{ListingStands, at_drop, one_line, head_line, inner_lines, end_line}
 use Rattle.raw_set_text.proofs.Listed.Sections.{ListingLaws, tile_lines, tile_means, switch_lines, switch_means}
 
 -- the wires that a switch's program needs behind these entries are there
@@ -53,10 +53,10 @@ no_fault entries entry is can = rw (some_tokens (word_name (word_of entry)) (ope
 
 -- an entry of one line
 plain_step : (lines rest : List (List (List ℕ))) (entries : List Entry) (entry : Entry) → is_section (Some (head_of_entry entry)) ≡ false → code_lines entry ≡ [] → head_of_entry entry ≡ entry
-    → IsWritable entry → CanFollow entries entry → Stands lines (map tokens_of (entry_lines entry) ++ rest) entries → Stands lines rest (entries ++ entry ∷ [])
+    → IsWritable entry → CanFollow entries entry → ListingStands lines (map tokens_of (entry_lines entry) ++ rest) entries → ListingStands lines rest (entries ++ entry ∷ [])
 plain_step lines rest entries entry plain none same is can s =
     let only : map tokens_of (entry_lines entry) ++ rest ≡ tokens_line entry ∷ rest = rw (none, line_is entry is) refl in
-    one_line lines rest (tokens_line entry) entries entry (subst (λ r. Stands lines r entries) only s)
+    one_line lines rest (tokens_line entry) entries entry (subst (λ r. ListingStands lines r entries) only s)
     (entry_back entry is ∙ ap Some same) (subst (λ e. is_section (Some e) ≡ false) same plain) (no_fault entries entry is can)
 
 end_tokens : tokens_of (codes "end") ≡ codes "end" ∷ []
@@ -74,7 +74,7 @@ section_step : (lines code rest : List (List (List ℕ))) (entries : List Entry)
     → AllByRecursion (λ line. is_end line ≡ false) code
     → ((i : ℕ) → i < length code → section_fault entries code i (Some (head_of_entry entry)) ≡ None)
     → section_entry entries code (Some (head_of_entry entry)) ≡ Some entry
-    → IsWritable entry → CanFollow entries entry → Stands lines (tokens_line entry ∷ (code ++ (codes "end" ∷ []) ∷ rest)) entries → Stands lines rest (entries ++ entry ∷ [])
+    → IsWritable entry → CanFollow entries entry → ListingStands lines (tokens_line entry ∷ (code ++ (codes "end" ∷ []) ∷ rest)) entries → ListingStands lines rest (entries ++ entry ∷ [])
 section_step lines code rest entries entry section goes_on fine gives is can s =
     let behind = code ++ (codes "end" ∷ []) ∷ rest in
     let at = at_drop lines s.k (tokens_line entry) [] behind s.behind in
@@ -93,7 +93,7 @@ section_tokens head line code rest e =
     rw (e, map-append tokens_of code (codes "end" ∷ []), end_tokens) (ap (λ more. line ∷ more) (append_assoc (map tokens_of code) ((codes "end" ∷ []) ∷ []) rest))
 
 pub entry_step : ListingLaws → (lines rest : List (List (List ℕ))) (entries : List Entry) (entry : Entry)
-    → IsWritable entry → CanFollow entries entry → Stands lines (map tokens_of (entry_lines entry) ++ rest) entries → Stands lines rest (entries ++ entry ∷ [])
+    → IsWritable entry → CanFollow entries entry → ListingStands lines (map tokens_of (entry_lines entry) ++ rest) entries → ListingStands lines rest (entries ++ entry ∷ [])
 entry_step laws lines rest entries (Grid columns rows) is can s = plain_step lines rest entries (Grid columns rows) refl refl refl is can s
 entry_step laws lines rest entries (Limit n) is can s = plain_step lines rest entries (Limit n) refl refl refl is can s
 entry_step laws lines rest entries (Depth n) is can s = plain_step lines rest entries (Depth n) refl refl refl is can s
@@ -107,24 +107,24 @@ entry_step laws lines rest entries (Tile tile code) is can s =
     let means = tile_means laws code is.1 is.2 in
     section_step lines section rest entries (Tile tile code) refl (tile_lines 0 code (omega (arith, is.1)) is.2).1
     (λ i lt. ap (option_map Asm) (means.faultless i lt)) (ap (λ c. Some (Tile tile c)) (sym means.code)) is can
-    (subst (λ r. Stands lines r entries) (section_tokens (line_of word.Tile (operands_of (Tile tile code))) (tokens_line (Tile tile code)) (listed_lines 0 code) rest (line_is (Tile tile code) is)) s)
+    (subst (λ r. ListingStands lines r entries) (section_tokens (line_of word.Tile (operands_of (Tile tile code))) (tokens_line (Tile tile code)) (listed_lines 0 code) rest (line_is (Tile tile code) is)) s)
 entry_step laws lines rest entries (Switch tile code) is can s =
     let section = map tokens_of (map line_text code) in
     let means = switch_means laws (wired_at (topology_of entries) tile) code is.1 is.2 can.wired in
     section_step lines section rest entries (Switch tile code) refl (switch_lines code is.2).1
     (λ i lt. ap (option_map Asm) (means.faultless i lt)) (ap (λ c. Some (Switch tile c)) (sym means.code)) is can
-    (subst (λ r. Stands lines r entries) (section_tokens (line_of word.Switch (operands_of (Switch tile code))) (tokens_line (Switch tile code)) (map line_text code) rest (line_is (Switch tile code) is)) s)
+    (subst (λ r. ListingStands lines r entries) (section_tokens (line_of word.Switch (operands_of (Switch tile code))) (tokens_line (Switch tile code)) (map line_text code) rest (line_is (Switch tile code) is)) s)
 
 -- the lines of many entries
 pub entries_step : ListingLaws → (lines rest : List (List (List ℕ))) (more before : List Entry) → AllByRecursion IsWritable more
     → ((front : List Entry) (entry : Entry) (back : List Entry) → more ≡ front ++ entry ∷ back → CanFollow (before ++ front) entry)
-    → Stands lines (map tokens_of (flat_map entry_lines more) ++ rest) before → Stands lines rest (before ++ more)
-entries_step laws lines rest [] before all can s = subst (λ e. Stands lines rest e) (sym (append-nil before)) s
+    → ListingStands lines (map tokens_of (flat_map entry_lines more) ++ rest) before → ListingStands lines rest (before ++ more)
+entries_step laws lines rest [] before all can s = subst (λ e. ListingStands lines rest e) (sym (append-nil before)) s
 entries_step laws lines rest (entry ∷ more) before all can s =
     let here : CanFollow before entry = subst (λ e. CanFollow e entry) (append-nil before) (can [] entry more refl) in
     let cut : map tokens_of (flat_map entry_lines (entry ∷ more)) ++ rest ≡ map tokens_of (entry_lines entry) ++ (map tokens_of (flat_map entry_lines more) ++ rest) =
     ap (λ m. m ++ rest) (map-append tokens_of (entry_lines entry) (flat_map entry_lines more)) ∙ append_assoc (map tokens_of (entry_lines entry)) (map tokens_of (flat_map entry_lines more)) rest in
-    let next = entry_step laws lines (map tokens_of (flat_map entry_lines more) ++ rest) before entry all.0 here (subst (λ r. Stands lines r before) cut s) in
+    let next = entry_step laws lines (map tokens_of (flat_map entry_lines more) ++ rest) before entry all.0 here (subst (λ r. ListingStands lines r before) cut s) in
     let later = entries_step laws lines rest more (before ++ entry ∷ []) all.1
     (λ front e back is. subst (λ es. CanFollow es e) (sym (append_assoc before (entry ∷ []) front)) (can (entry ∷ front) e back (ap (λ es. entry ∷ es) is))) next in
-    subst (λ es. Stands lines rest es) (append_assoc before (entry ∷ []) more) later
+    subst (λ es. ListingStands lines rest es) (append_assoc before (entry ∷ []) more) later

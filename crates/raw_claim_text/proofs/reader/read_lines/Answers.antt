@@ -11,7 +11,7 @@ use Rattle.raw_flow_text.proofs.Causes.{passed}
 use Rattle.raw_claim_text.specs.Forms.{plain_line}
 use Rattle.raw_claim_text.specs.Placing.{place_said, said_places, said_in, line_fault}
 use Rattle.raw_claim_text.specs.Lines.{size_of, fault_at, IsMeaning, IsCause}
-use Rattle.raw_claim_text.specs.Building.{Stands, claim_of}
+use Rattle.raw_claim_text.specs.Building.{ClaimStands, claim_of}
 use Rattle.raw_claim_text.proofs.Reading.{line_passes, stands_next, line_refused, end_refused, ended_fed, meant}
 use Rattle.raw_claim_text.proofs.reader.read_lines.Goals as goal
 
@@ -48,7 +48,7 @@ loop-place-preserved c =
     let kept = c.in_ok-add_line.ensures {u = tt} in
     let stands = c.loop-place.invariant.stands in
     record {
-      stands = stands_next topo c.args.from lines c.add_line.new.self k lt (subst (λ line. Stands topo c.add_line.new.self (take k lines ++ line ∷ [])) c.line.ensures (kept.stands (take k lines) stands));
+      stands = stands_next topo c.args.from lines c.add_line.new.self k lt (subst (λ line. ClaimStands topo c.add_line.new.self (take k lines ++ line ∷ [])) c.line.ensures (kept.stands (take k lines) stands));
       faultless = line_passes topo c.args.from lines k lt c.loop-place.invariant.faultless
           (ap (λ line. line_fault (flow_line.line_fault (Some (size_of topo)) (said_in (take k lines)) (plain_line line)) (place_said topo (said_places topo (take k lines)) line)) (sym c.line.ensures)
           ∙ kept.fault (take k lines) stands);
@@ -62,7 +62,7 @@ finish-requires c =
     let topo = c.args.topo.now in
     let last : c.loop-place.place ≡ length lines = omega arith in
     let faultless = subst (AreFaultless (fault_at topo lines)) last c.loop-place.invariant.faultless in
-    let stands = subst (Stands topo c.loop-place.builder) (ap (λ n. take n lines) last ∙ take-length lines) c.loop-place.invariant.stands in
+    let stands = subst (ClaimStands topo c.loop-place.builder) (ap (λ n. take n lines) last ∙ take-length lines) c.loop-place.invariant.stands in
     (said_in lines, stands.flow, ended_fed topo c.args.from lines (c.law_one_answer.ensures (Some (size_of topo)) c.args.from (map plain_line lines)) faultless)
 
 pub returns-in_err-read-clause-cause : goal.returns-in_err-read-clause-cause
@@ -72,7 +72,7 @@ returns-in_err-read-clause-cause c =
     let last : c.loop-place.place ≡ length lines = omega arith in
     let refusal = c.in_err-read.field-0.0 in
     let faultless = subst (AreFaultless (fault_at topo lines)) last c.loop-place.invariant.faultless in
-    let stands = subst (Stands topo c.loop-place.builder) (ap (λ n. take n lines) last ∙ take-length lines) c.loop-place.invariant.stands in
+    let stands = subst (ClaimStands topo c.loop-place.builder) (ap (λ n. take n lines) last ∙ take-length lines) c.loop-place.invariant.stands in
     let whole : lines ≡ drop c.args.from (text_lines c.args.text.now) = c.new-lines.ensures.lines ∙ ap (λ n. take (n - c.args.from) (drop c.args.from (text_lines c.args.text.now))) c.line_count.ensures.count ∙ take_rest (text_lines c.args.text.now) c.args.from in
     let long : length lines ≡ length (text_lines c.args.text.now) - c.args.from = ap length whole ∙ length-drop c.args.from (text_lines c.args.text.now) in
     subst (λ all. IfErr c.from_residual-in_err-read.result (IsCause topo c.args.from all)) whole
@@ -85,7 +85,7 @@ returns-clause-meaning c =
     let topo = c.args.topo.now in
     let last : c.loop-place.place ≡ length lines = omega arith in
     let faultless = subst (AreFaultless (fault_at topo lines)) last c.loop-place.invariant.faultless in
-    let stands = subst (Stands topo c.loop-place.builder) (ap (λ n. take n lines) last ∙ take-length lines) c.loop-place.invariant.stands in
+    let stands = subst (ClaimStands topo c.loop-place.builder) (ap (λ n. take n lines) last ∙ take-length lines) c.loop-place.invariant.stands in
     let whole : lines ≡ drop c.args.from (text_lines c.args.text.now) = c.new-lines.ensures.lines ∙ ap (λ n. take (n - c.args.from) (drop c.args.from (text_lines c.args.text.now))) c.line_count.ensures.count ∙ take_rest (text_lines c.args.text.now) c.args.from in
     subst (λ all. IsMeaning topo all (claim_of (record { read = c.in_ok-read.read; places = c.loop-place.builder.places }))) whole
     (meant topo c.args.from lines (claim_of (record { read = c.in_ok-read.read; places = c.loop-place.builder.places })) faultless (c.in_ok-read.ensures.fault (said_in lines) stands.flow)

@@ -2,7 +2,7 @@ use Rattle.std.proofs.Common.{◌∙◌, subst}
 use Rattle.raw_tile_isa.specs.Instruction.{Instruction}
 use Rattle.raw_switch_isa.specs.Instruction.{SwitchInstruction}
 use Rattle.std.specs.Prelude.{[], ◌∷◌}
-use Rattle.raw_codegen.specs.Script.{ToTile, ToSwitch, Gives}
+use Rattle.raw_codegen.specs.Parts.{ToTile, ToSwitch, Gives}
 use Rattle.raw_codegen.proofs.Halts.{halts_step}
 use Rattle.raw_codegen.proofs.programs.push_halts.Goals as goal
 

@@ -1,5 +1,5 @@
 use Rattle.std.proofs.Common.{◌≡◌, ℕ, length}
-use Rattle.raw_codegen.specs.Script.{halts_to, Gives}
+use Rattle.raw_codegen.specs.Parts.{halts_to, Gives}
 use Rattle.raw_codegen.proofs.programs.push_halts.Given as goal
 
 -- the tiles so far have got their 'halt'

@@ -1,8 +1,8 @@
 use Rattle.std.proofs.Common.{sym, subst}
 use Rattle.raw_lines.specs.LabelsOf.{places_in}
 use Rattle.raw_shell.specs.Seen.{sink_seen}
-use Rattle.raw_command_line.specs.declared.words.ReadingCommand.TheVariants.{Debug}
-use Rattle.raw_command_line.specs.declared.words.Command.TheVariants.{Reads}
+use Rattle.raw_command_line.specs.declared.arguments.ReadingCommand.TheVariants.{Debug}
+use Rattle.raw_command_line.specs.declared.arguments.Command.TheVariants.{Reads}
 use Rattle.raw_inputs.specs.Inputs.{IsScripted}
 use Rattle.raw_owed.proofs.Fronts.{puts_due}
 use Rattle.raw_commands.proofs.Scripts.{text, debug_owed, past_owed, script_due}

@@ -5,8 +5,8 @@ use Rattle.raw_shell.specs.Answers.{status_of, Said}
 use Rattle.raw_shell.specs.Seen.{SourceSeen, source_seen, sink_seen}
 use Rattle.raw_shell.specs.Gathering.{gathering}
 use Rattle.raw_shell.specs.Gathered.{behind, told}
-use Rattle.raw_command_line.specs.declared.words.Command.{Command}
-use Rattle.raw_command_line.specs.Words.{command_of}
+use Rattle.raw_command_line.specs.declared.arguments.Command.{Command}
+use Rattle.raw_command_line.specs.Arguments.{command_of}
 use Rattle.raw_owed.specs.Answers.{Answer}
 use Rattle.raw_inputs.specs.Flaws.{flaw_line}
 use Rattle.raw_commands.specs.Ended.{Answered}
@@ -17,13 +17,13 @@ pub returns-clause-ended : goal.returns-clause-ended
 returns-clause-ended g c = λ tells.
     let sight = g.K.Sink.sight in
     let start : Sight = behind sight c.args.out.now in
-    let mid : Sight = told sight c.perform-answer.new.out in
-    let source : SourceSeen = source_seen g.S.Source.sight c.args.source.now c.perform-answer.new.source in
+    let mid : Sight = told sight c.dispatch-answer.new.out in
+    let source : SourceSeen = source_seen g.S.Source.sight c.args.source.now c.dispatch-answer.new.source in
     let command : Option Command = command_of (map string_bytes c.args.words.now) in
-    let first : Answered command source (record { old = told sight c.args.out.now; new = mid }) c.perform-answer.result =
-    subst (λ w. Answered w source (record { old = told sight c.args.out.now; new = mid }) c.perform-answer.result) c.command_in.ensures.command c.perform-answer.ensures in
-    let is : Answered command source (record { old = gathering start []; new = mid }) c.perform-answer.result =
-    subst (λ gs. Answered command source (record { old = gathering start gs; new = mid }) c.perform-answer.result) c.requires.out.none first in
+    let first : Answered command source (record { old = told sight c.args.out.now; new = mid }) c.dispatch-answer.result =
+    subst (λ w. Answered w source (record { old = told sight c.args.out.now; new = mid }) c.dispatch-answer.result) c.command_in.ensures.command c.dispatch-answer.ensures in
+    let is : Answered command source (record { old = gathering start []; new = mid }) c.dispatch-answer.result =
+    subst (λ gs. Answered command source (record { old = gathering start gs; new = mid }) c.dispatch-answer.result) c.requires.out.none first in
     let hands = c.hand_on-answer.ensures command source start c.requires.out.empty is in
     record {
       answer = c.hand_on-answer.result;
@@ -36,13 +36,13 @@ pub returns-clause-fault : goal.returns-clause-fault
 returns-clause-fault g c = λ eight.
     let sight = g.K.Sink.sight in
     let start : Sight = behind sight c.args.out.now in
-    let mid : Sight = told sight c.perform-answer.new.out in
-    let source : SourceSeen = source_seen g.S.Source.sight c.args.source.now c.perform-answer.new.source in
+    let mid : Sight = told sight c.dispatch-answer.new.out in
+    let source : SourceSeen = source_seen g.S.Source.sight c.args.source.now c.dispatch-answer.new.source in
     let command : Option Command = command_of (map string_bytes c.args.words.now) in
-    let first : Answered command source (record { old = told sight c.args.out.now; new = mid }) c.perform-answer.result =
-    subst (λ w. Answered w source (record { old = told sight c.args.out.now; new = mid }) c.perform-answer.result) c.command_in.ensures.command c.perform-answer.ensures in
-    let is : Answered command source (record { old = gathering start []; new = mid }) c.perform-answer.result =
-    subst (λ gs. Answered command source (record { old = gathering start gs; new = mid }) c.perform-answer.result) c.requires.out.none first in
+    let first : Answered command source (record { old = told sight c.args.out.now; new = mid }) c.dispatch-answer.result =
+    subst (λ w. Answered w source (record { old = told sight c.args.out.now; new = mid }) c.dispatch-answer.result) c.command_in.ensures.command c.dispatch-answer.ensures in
+    let is : Answered command source (record { old = gathering start []; new = mid }) c.dispatch-answer.result =
+    subst (λ gs. Answered command source (record { old = gathering start gs; new = mid }) c.dispatch-answer.result) c.requires.out.none first in
     let hands = c.hand_on-answer.ensures command source start c.requires.out.empty is in
     let fault = is_write_fault c.hand_on-answer.result (sym c.conclude_gathered.ensures.status ∙ eight) in
     record {

@@ -5,7 +5,7 @@ use Rattle.raw_lines.specs.LabelsOf.{places_in}
 use Rattle.raw_debug.specs.Commands.{readings, readings_from}
 use Rattle.raw_debug.specs.Commands.Meaning.{Blank}
 use Rattle.raw_debug.specs.Script.{is_past, text_from, script_text}
-use Rattle.raw_debug.specs.Debugging.{Stands, spot_of}
+use Rattle.raw_debug.specs.Debugging.{PositionStands, spot_of}
 use Rattle.raw_debug.proofs.Readings.{AreLeft}
 use Rattle.raw_debug.proofs.debugging.follow.Given as goal
 
@@ -16,7 +16,7 @@ invariant-loop-line g l =
     let lines = drop l.from (text_lines l.text) in
     record {
       same : l.debugger.walk.machine.set ≡ set;
-      stands : Stands l.debugger;
+      stands : PositionStands l.debugger;
       left : AreLeft labels set (text_lines l.text) l.from l.line l.debugger.current;
       none : (k : ℕ) → k < l.line - l.from → is_past set (get_or (readings labels set lines) k Blank) ≡ false;
       begun : Begun (g.K.Sink.sight l.fn.out) (g.K.Sink.sight l.out) (text_from set (spot_of l.debugger) (readings_from labels set l.debugger.current (drop (l.line - l.from) lines))) (script_text labels set lines);

@@ -1,7 +1,7 @@
 use Rattle.std.proofs.Common.{◌≡◌, ◌*◌, ◌<◌, ◌≤◌, [], length, arith, Err, ap, ◌∙◌, sym, subst}
 use Rattle.std.proofs.lemmas.List.FromFn.{length-map-range_with_len}
 use Rattle.raw_flow.specs.declared.limits.TheConstants.{MAX_NODES}
-use Rattle.raw_codegen.specs.Script.{program_of, programs_of}
+use Rattle.raw_codegen.specs.Parts.{program_of, programs_of}
 use Rattle.raw_codegen.specs.Limits.{Overflows}
 use Rattle.raw_flow.specs.Flows.{Dataflow}
 use Rattle.raw_flow.specs.Given.{AreGiven}

@@ -3,7 +3,7 @@ use Rattle.std.specs.Prelude.{OnOk}
 use Rattle.std.proofs.lemmas.Result.{on_ok_weaker}
 use Rattle.raw_grid.specs.declared.parts.Net.TheVariants.{One}
 use Rattle.raw_codegen.specs.Limits.{Overflows}
-use Rattle.raw_codegen.specs.Script.{ToTile, Gives}
+use Rattle.raw_codegen.specs.Parts.{ToTile, Gives}
 use Rattle.raw_flow.specs.Flows.{Dataflow}
 use Rattle.raw_flow.specs.Compiled.{tiles_in, home, carried, take_value}
 use Rattle.raw_flow.proofs.Parts.{carried_given, first_full, tree_full, last_full}

@@ -1,6 +1,6 @@
 use Rattle.std.proofs.Common.{[], ◌∷◌}
 use Rattle.std.proofs.lemmas.Result.{on_ok_weaker}
-use Rattle.raw_codegen.specs.Script.{ToTile, Gives}
+use Rattle.raw_codegen.specs.Parts.{ToTile, Gives}
 use Rattle.raw_flow.proofs.Parts.{const_given}
 use Rattle.raw_flow.proofs.giving.give_const.Goals as goal
 use Rattle.raw_route.proofs.HaulParts.{GivingLaws}

@@ -1,7 +1,7 @@
 use Rattle.std.proofs.Common.{[], ◌∷◌, subst}
 use Rattle.std.proofs.lemmas.Result.{on_ok_weaker}
 use Rattle.raw_tile_isa.specs.Instruction.{Instruction}
-use Rattle.raw_codegen.specs.Script.{ToTile, Gives}
+use Rattle.raw_codegen.specs.Parts.{ToTile, Gives}
 use Rattle.raw_codegen.specs.Rows.{load_ins, store_ins}
 use Rattle.raw_flow.specs.Compiled.{op_ins}
 use Rattle.raw_flow.proofs.giving.give_operation.Goals as goal

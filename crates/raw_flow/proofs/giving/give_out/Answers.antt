@@ -1,7 +1,7 @@
 use Rattle.std.proofs.Common.{◌≡◌, [], ◌∷◌, Err, refl, ap, ◌∙◌, sym}
 use Rattle.std.proofs.lemmas.Result.{on_ok_weaker}
 use Rattle.raw_grid.specs.declared.parts.PortPlace.{PortPlace}
-use Rattle.raw_codegen.specs.Script.{ToSwitch, Gives}
+use Rattle.raw_codegen.specs.Parts.{ToSwitch, Gives}
 use Rattle.raw_codegen.specs.Rows.{register_of, load_ins, to_side}
 use Rattle.raw_flow.specs.Ports.{sink_of}
 use Rattle.raw_flow.specs.Compiled.{tiles_in, sink_tile, send_value}

@@ -6,7 +6,7 @@ use Rattle.raw_live_text.proofs.handing.hand_on.Goals as goal
 pub returns-in_err-hand_on_byte-clause-handled : goal.returns-in_err-hand_on_byte-clause-handled
 returns-in_err-hand_on_byte-clause-handled g c =
     let p = err_from_is_err_and c.from_residual.result c.from_residual.ensures.1 in
-    λ bytes s. rw (p.1, p.2) (stops_at c.args.intake.now bytes c.args.piece.now c.loop-next.next-index c.hand_on_byte.new.known.number _ _ c.loop-next-test.true (c.in_err-hand_on_byte.ensures.handled _ (c.loop-next.invariant.stands bytes s)))
+    λ bytes s. rw (p.1, p.2) (stops_at c.args.intake.now bytes c.args.piece.now c.loop-next.next-index c.hand_on_byte.new.so_far.number _ _ c.loop-next-test.true (c.in_err-hand_on_byte.ensures.handled _ (c.loop-next.invariant.stands bytes s)))
 
 pub loop-next-preserved : goal.loop-next-preserved
 loop-next-preserved g c =
@@ -15,5 +15,5 @@ loop-next-preserved g c =
       queue = o.queue ∙ inv.queue;
       counted = record { words = o.counted.words; room = o.counted.room; number = omega (arith, o.counted.number, inv.counted.number) };
       short = omega (arith, o.short, inv.short);
-      stands = λ bytes s. goes_on c.args.intake.now bytes c.args.piece.now c.loop-next.next-index c.hand_on_byte.new.known c.hand_on_byte.new.to.items c.loop-next-test.true (o.handled _ (inv.stands bytes s));
+      stands = λ bytes s. goes_on c.args.intake.now bytes c.args.piece.now c.loop-next.next-index c.hand_on_byte.new.so_far c.hand_on_byte.new.to.items c.loop-next-test.true (o.handled _ (inv.stands bytes s));
     }

@@ -7,7 +7,7 @@ use Rattle.raw_plan_text.specs.Forms.{Sent}
 use Rattle.raw_plan_text.specs.Forms.Entry.{Send}
 use Rattle.raw_plan_text.specs.Faults.{is_inside, number_in, entry_fault}
 use Rattle.raw_plan_text.specs.Meaning.{haul_of}
-use Rattle.raw_plan_text.specs.Answers.{Stands, each_once}
+use Rattle.raw_plan_text.specs.Answers.{PlanStands, each_once}
 use Rattle.raw_plan_text.proofs.Steps.{grid_same, off_from, off_to, named_twice, send_faultless, once_some, stands_more}
 use Rattle.raw_plan_text.proofs.reader.add_send.Goals as goal
 use Rattle.raw_plan_text.proofs.reader.add_send.Goals.{then-not-is_inside-via-then-not-is_inside, then-not-is_inside-via-else-not-is_inside+then-not-are_inside}
@@ -56,6 +56,6 @@ returns-clause-stands c entries stands =
     let haul : told ≡ haul_of grid sent =
     ap (λ n. record { from = n; net = c.send.inside.net; to = c.in-Some.to.items }) c.tile_number-from.ensures
     ∙ ap (λ tiles. record { from = number_in grid c.send.inside.from; net = c.send.inside.net; to = tiles }) (sym targets) in
-    subst (λ s. Stands (Some c.add.new.self) (entries ++ Send s ∷ [])) c.send.view_is
+    subst (λ s. PlanStands (Some c.add.new.self) (entries ++ Send s ∷ [])) c.send.view_is
     (stands_more c.args.plan.now c.add.new.self entries sent grid (grid_same _ entries (c.plan.view_is ∙ stands.1)) stands
     (is ∙ ap (λ h. record c.args.plan.now { hauls = c.args.plan.now.hauls ++ h ∷ []; words = c.args.plan.now.words ++ c.send.inside.word ∷ [] }) haul))

@@ -6,7 +6,7 @@ use Rattle.raw_asm.specs.Tokens.{tokens_of}
 use Rattle.raw_plan_text.specs.Forms.{grid_entry, send_entry}
 use Rattle.raw_plan_text.specs.Forms.Entry.{Send}
 use Rattle.raw_plan_text.specs.Faults.{form_fault}
-use Rattle.raw_plan_text.specs.Answers.{Answers, Stands}
+use Rattle.raw_plan_text.specs.Answers.{Answers, PlanStands}
 use Rattle.raw_plan_text.proofs.Steps.{grid_line, send_line, other_line, later_line}
 use Rattle.raw_plan_text.proofs.reader.read_later.Goals as goal
 
@@ -34,7 +34,7 @@ returns-in-Some-clause-stands c entries stands =
     let tokens = tokens_of c.args.line.now in
     let entry = send_line tokens (sym (c.if-is_grid.ensures {u = tt})) (sym (c.if-not-is_send.ensures {u = tt})) ∙ ap send_entry (sym c.behind-operands.ensures)
     ∙ c.in_ok-send.ensures {u = tt} ∙ ap (option_map (λ send. Send send)) c.in-Some.is in
-    subst (λ o. OnOk c.add_send.result (Stands (Some c.add_send.new.plan) (entries ++ cons_option o []))) (sym entry) (c.add_send.ensures.stands entries stands)
+    subst (λ o. OnOk c.add_send.result (PlanStands (Some c.add_send.new.plan) (entries ++ cons_option o []))) (sym entry) (c.add_send.ensures.stands entries stands)
 
 pub returns-in-None-clause-fault : goal.returns-in-None-clause-fault
 returns-in-None-clause-fault c entries stands =

@@ -7,7 +7,7 @@ use Rattle.raw_answer.proofs.Places.{more_faultless}
 use Rattle.raw_asm.specs.Tokens.{tokens_of}
 use Rattle.raw_plan_text.specs.Faults.{line_fault}
 use Rattle.raw_plan_text.specs.Meaning.{entries_of, place_fault}
-use Rattle.raw_plan_text.specs.Answers.{Names, Stands}
+use Rattle.raw_plan_text.specs.Answers.{Names, PlanStands}
 use Rattle.raw_plan_text.proofs.Steps.{entries_more, fault_of_line}
 use Rattle.raw_plan_text.proofs.Whole.{line_cause, all_read, none_read, few_hauls}
 use Rattle.raw_plan_text.proofs.reader.read_plan.Goals as goal
@@ -35,7 +35,7 @@ loop-place-preserved c =
     record {
       same = at.same;
       faultless = more_faultless (place_fault lines) place at.faultless (fault_of_line lines place there ∙ ap (line_fault entries) (sym line) ∙ c.in_ok-plan.ensures.fault entries at.stands);
-      stands = subst (Stands c.in_ok-plan.plan) (sym (entries_more lines place there ∙ ap (λ l. entries ++ entries_of (l ∷ [])) (sym line))) (c.in_ok-plan.ensures.stands entries at.stands);
+      stands = subst (PlanStands c.in_ok-plan.plan) (sym (entries_more lines place there ∙ ap (λ l. entries ++ entries_of (l ∷ [])) (sym line))) (c.in_ok-plan.ensures.stands entries at.stands);
     }
 
 pub returns-in-Some-clause-meaning : goal.returns-in-Some-clause-meaning
@@ -43,9 +43,9 @@ returns-in-Some-clause-meaning c =
     let lines = text_lines c.args.text.now in
     let at = c.loop-place.invariant in
     let last : c.loop-place.place ≡ length lines = omega (arith, ap length at.same) in
-    let stands = subst (λ plan. Stands plan (entries_of (take c.loop-place.place lines))) c.in-Some.is at.stands in
+    let stands = subst (λ plan. PlanStands plan (entries_of (take c.loop-place.place lines))) c.in-Some.is at.stands in
     all_read lines c.in-Some.plan (subst (AreFaultless (place_fault lines)) last at.faultless)
-    (subst (λ front. Stands (Some c.in-Some.plan) (entries_of front)) (take_all c.loop-place.place lines (omega (arith, last))) stands)
+    (subst (λ front. PlanStands (Some c.in-Some.plan) (entries_of front)) (take_all c.loop-place.place lines (omega (arith, last))) stands)
 
 pub returns-in-Some-clause-valid : goal.returns-in-Some-clause-valid
 returns-in-Some-clause-valid c = (c.law_one_answer.ensures (text_lines c.args.text.now)).valid c.in-Some.plan (returns-in-Some-clause-meaning c)
@@ -59,7 +59,7 @@ returns-in-None-clause-cause c =
     let lines = text_lines c.args.text.now in
     let at = c.loop-place.invariant in
     let last : c.loop-place.place ≡ length lines = omega (arith, ap length at.same) in
-    let none = subst (λ plan. Stands plan (entries_of (take c.loop-place.place lines))) c.in-None.is at.stands in
+    let none = subst (λ plan. PlanStands plan (entries_of (take c.loop-place.place lines))) c.in-None.is at.stands in
     rw c.refusal.ensures (
       length lines,
       omega (arith, ap length at.same),

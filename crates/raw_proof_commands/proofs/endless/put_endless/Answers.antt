@@ -4,9 +4,9 @@ use Rattle.raw_stream_choice.specs.Endless.{IsEndlessChoice}
 use Rattle.raw_shell.specs.declared.ending.Ending.TheVariants.{Unproved}
 use Rattle.raw_shell.specs.Seen.{sink_seen}
 use Rattle.raw_verdict.specs.LiveText.{no_cut_line}
-use Rattle.raw_command_line.specs.declared.words.FlowSet.TheVariants.{Endless}
-use Rattle.raw_command_line.specs.declared.words.ReadingCommand.TheVariants.{Flow}
-use Rattle.raw_command_line.specs.declared.words.Command.TheVariants.{Reads}
+use Rattle.raw_command_line.specs.declared.arguments.FlowSet.TheVariants.{Endless}
+use Rattle.raw_command_line.specs.declared.arguments.ReadingCommand.TheVariants.{Flow}
+use Rattle.raw_command_line.specs.declared.arguments.Command.TheVariants.{Reads}
 use Rattle.raw_proof_commands.proofs.endless.put_endless.Goals as goal
 
 pub returns-in-Ok-None : goal.returns-in-Ok-None

@@ -7,8 +7,8 @@ use Rattle.raw_shell.specs.Seen.{sink_seen}
 use Rattle.raw_row_claim_text.specs.Seats.{IsSeatedAs}
 use Rattle.raw_owed.specs.LiveOutputs.{IsRowsProvedLive, IsLiveOutputBy}
 use Rattle.raw_verdict.specs.LiveText.{no_cut_line}
-use Rattle.raw_command_line.specs.declared.words.ReadingCommand.TheVariants.{ProveLive}
-use Rattle.raw_command_line.specs.declared.words.Command.TheVariants.{Reads}
+use Rattle.raw_command_line.specs.declared.arguments.ReadingCommand.TheVariants.{ProveLive}
+use Rattle.raw_command_line.specs.declared.arguments.Command.TheVariants.{Reads}
 use Rattle.raw_proof_commands.proofs.live_proved.prove_rows.Goals as goal
 
 pub returns-in-Ok-None : goal.returns-in-Ok-None

@@ -4,8 +4,8 @@ use Rattle.raw_io.specs.Writing.{Writes}
 use Rattle.raw_shell.specs.Seen.{sink_seen}
 use Rattle.raw_owed.specs.LiveOutputs.{live_text}
 use Rattle.raw_verdict.specs.LiveText.{lacks_text, proved_rows_line}
-use Rattle.raw_command_line.specs.declared.words.ReadingCommand.TheVariants.{ProveLive}
-use Rattle.raw_command_line.specs.declared.words.Command.TheVariants.{Reads}
+use Rattle.raw_command_line.specs.declared.arguments.ReadingCommand.TheVariants.{ProveLive}
+use Rattle.raw_command_line.specs.declared.arguments.Command.TheVariants.{Reads}
 use Rattle.raw_proof_commands.proofs.live_proved.put_extent.Goals as goal
 
 pub returns : goal.returns

@@ -3,8 +3,8 @@ use Rattle.raw_shell.specs.declared.ending.Ending.TheVariants.{Unproved}
 use Rattle.raw_shell.specs.Seen.{sink_seen}
 use Rattle.raw_owed.specs.LiveOutputs.{IsNotProvedLive, IsLiveOutputBy}
 use Rattle.raw_verdict.specs.LiveText.{no_cut_line}
-use Rattle.raw_command_line.specs.declared.words.ReadingCommand.TheVariants.{ProveLive}
-use Rattle.raw_command_line.specs.declared.words.Command.TheVariants.{Reads}
+use Rattle.raw_command_line.specs.declared.arguments.ReadingCommand.TheVariants.{ProveLive}
+use Rattle.raw_command_line.specs.declared.arguments.Command.TheVariants.{Reads}
 use Rattle.raw_proof_commands.proofs.live_proved.put_no_cut.Goals as goal
 
 pub returns : goal.returns

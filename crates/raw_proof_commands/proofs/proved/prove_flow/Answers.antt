@@ -8,8 +8,8 @@ use Rattle.raw_refute.specs.declared.said.Answer.TheVariants.{Proved, ProvedByRo
 use Rattle.raw_refute.specs.Answers.{IsProof, IsAnswer}
 use Rattle.raw_verdict.specs.Text.{answer_text}
 use Rattle.raw_shell.specs.Seen.{sink_seen}
-use Rattle.raw_command_line.specs.declared.words.ReadingCommand.TheVariants.{Prove}
-use Rattle.raw_command_line.specs.declared.words.Command.TheVariants.{Reads}
+use Rattle.raw_command_line.specs.declared.arguments.ReadingCommand.TheVariants.{Prove}
+use Rattle.raw_command_line.specs.declared.arguments.Command.TheVariants.{Reads}
 use Rattle.raw_claim_text.specs.Texts.{ClaimMeaning}
 use Rattle.raw_owed.specs.ClaimOutputs.{IsFlowAnswered, IsProveOutputBy}
 use Rattle.raw_proof_commands.proofs.proved.prove_flow.Goals as goal

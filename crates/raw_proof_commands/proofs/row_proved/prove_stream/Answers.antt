@@ -9,8 +9,8 @@ use Rattle.raw_row_terms.specs.RowClaims.{IsClaimOf}
 use Rattle.raw_refute.specs.RowAnswers.{IsRowsProof, IsRowsAnswer}
 use Rattle.raw_verdict.specs.Text.{answer_text}
 use Rattle.raw_shell.specs.Seen.{sink_seen}
-use Rattle.raw_command_line.specs.declared.words.ReadingCommand.TheVariants.{Prove}
-use Rattle.raw_command_line.specs.declared.words.Command.TheVariants.{Reads}
+use Rattle.raw_command_line.specs.declared.arguments.ReadingCommand.TheVariants.{Prove}
+use Rattle.raw_command_line.specs.declared.arguments.Command.TheVariants.{Reads}
 use Rattle.raw_row_claim_text.specs.Seats.{IsSeatedAs}
 use Rattle.raw_owed.specs.ClaimOutputs.{IsRowsAnswered, IsProveOutputBy}
 use Rattle.raw_proof_commands.proofs.row_proved.prove_stream.Goals as goal

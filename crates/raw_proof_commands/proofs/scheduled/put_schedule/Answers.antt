@@ -1,7 +1,7 @@
 use Rattle.std.proofs.Common.{refl, ◌∙◌}
-use Rattle.raw_command_line.specs.declared.words.FlowSet.TheVariants.{Scheduled}
-use Rattle.raw_command_line.specs.declared.words.ReadingCommand.TheVariants.{Flow}
-use Rattle.raw_command_line.specs.declared.words.Command.TheVariants.{Reads}
+use Rattle.raw_command_line.specs.declared.arguments.FlowSet.TheVariants.{Scheduled}
+use Rattle.raw_command_line.specs.declared.arguments.ReadingCommand.TheVariants.{Flow}
+use Rattle.raw_command_line.specs.declared.arguments.Command.TheVariants.{Reads}
 use Rattle.raw_proof_commands.proofs.scheduled.put_schedule.Goals as goal
 
 pub returns-in-Ok-list_set : goal.returns-in-Ok-list_set

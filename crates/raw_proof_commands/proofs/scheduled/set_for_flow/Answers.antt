@@ -6,7 +6,7 @@ use Rattle.raw_flow_text.specs.Meaning.{IsMeaning, IsCause}
 use Rattle.raw_choice.specs.Choice.{IsMade}
 use Rattle.raw_inputs.specs.declared.form.InputForm.TheVariants as form
 use Rattle.raw_inputs.specs.Flaws.{Failure}
-use Rattle.raw_inputs.specs.Inputs.{IsUnset}
+use Rattle.raw_inputs.specs.Inputs.{IsRefusalOf}
 use Rattle.raw_proof_commands.proofs.Scheduling.{flow_cause, flow_too_long}
 use Rattle.raw_proof_commands.proofs.scheduled.set_for_flow.Goals as goal
 
@@ -22,5 +22,5 @@ returns-in-Ok-None-clause-cause c = λ input plain same is_flow.
     subst (λ inputs. ¬ (IsMade c.read.inside.flow inputs)) c.deref-2.ensures.value (c.in-Ok-None.ensures.none c.in-Ok-None.field-0-is) in
     let not_made : ¬ (IsMade fed.flow fed.inputs) = subst (λ (f : FedFlow). ¬ (IsMade f.flow f.inputs)) c.read.view_is none in
     let last : c.line_count.result + 1 ≡ length (token_lines input) + 1 = ap (λ n. n + 1) (c.line_count.ensures.count ∙ ap length same) in
-    subst (λ (failure : Failure). IsUnset form.Flow input failure) (sym c.refused_at.ensures)
+    subst (λ (failure : Failure). IsRefusalOf form.Flow input failure) (sym c.refused_at.ensures)
     (flow_too_long input plain (c.line_count.result + 1) last is_flow fed meaning not_made)

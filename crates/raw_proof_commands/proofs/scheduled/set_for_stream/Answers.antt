@@ -5,7 +5,7 @@ use Rattle.raw_stream_text.specs.Texts.{StreamMeaning}
 use Rattle.raw_stream_text.specs.Meaning.{IsMeaning, IsCause}
 use Rattle.raw_inputs.specs.declared.form.InputForm.TheVariants as form
 use Rattle.raw_inputs.specs.Flaws.{Failure}
-use Rattle.raw_inputs.specs.Inputs.{IsUnset}
+use Rattle.raw_inputs.specs.Inputs.{IsRefusalOf}
 use Rattle.raw_proof_commands.proofs.Scheduling.{stream_cause, stream_too_long}
 use Rattle.raw_proof_commands.proofs.scheduled.set_for_stream.Goals as goal
 
@@ -18,5 +18,5 @@ returns-in-Ok-None-clause-cause c = λ input plain same is_rows.
     let fed : FedStream = c.in-Ok.read in
     let meaning : StreamMeaning input fed = record { plain = plain; meaning = subst (λ lines. IsMeaning None lines fed) same c.in-Ok.ensures.meaning } in
     let last : c.line_count.result + 1 ≡ length (token_lines input) + 1 = ap (λ n. n + 1) (c.line_count.ensures.count ∙ ap length same) in
-    subst (λ (failure : Failure). IsUnset form.Flow input failure) (sym c.refused_at.ensures)
+    subst (λ (failure : Failure). IsRefusalOf form.Flow input failure) (sym c.refused_at.ensures)
     (stream_too_long input plain (c.line_count.result + 1) last is_rows fed meaning (c.in-Ok-None.ensures.none c.in-Ok-None.field-0-is))

@@ -7,7 +7,7 @@ use Rattle.std.proofs.KnownBytes.{Appends-nil}
 use Rattle.raw_io.specs.Writing.{AppendsProperFront}
 use Rattle.raw_io.proofs.Chains.{AppendsProperFront-after}
 use Rattle.raw_report.specs.History.{history_text}
-use Rattle.raw_report.proofs.Pieces.{line_of_step, text_of, begins_so, begins}
+use Rattle.raw_report.proofs.Pieces.{line_of_step, history_text_of, begins_so, begins}
 use Rattle.raw_report.proofs.history.write_history.Goals as goal
 
 pub returns-in_err-put_all : goal.returns-in_err-put_all
@@ -27,7 +27,7 @@ returns-in_err-put_all-2 g c =
 pub returns : goal.returns
 returns g c = record {
   ok = subst (λ text. Appends (g.K.Sink.sight c.args.out.now).bytes (g.K.Sink.sight c.loop-step.out).bytes text)
-      (ap (λ steps. codes "history\n" ++ flat_map line_of_step steps) (take_all c.loop-step.step-index c.args.steps.now c.loop-step-test.false) ∙ sym (text_of c.args.steps.now))
+      (ap (λ steps. codes "history\n" ++ flat_map line_of_step steps) (take_all c.loop-step.step-index c.args.steps.now c.loop-step-test.false) ∙ sym (history_text_of c.args.steps.now))
       c.loop-step.invariant.appended;
   front = tt;
   fault = tt;

@@ -2,7 +2,7 @@ use Rattle.std.proofs.Common.{◌*◌, [], ◌∷◌, ◌++◌, Err, map, inl, i
 use Rattle.std.proofs.lemmas.Result.{on_ok_weaker}
 use Rattle.raw_codegen.specs.Limits.{Overflows}
 use Rattle.raw_route.specs.Counts.{AreCounts, HasManyWords}
-use Rattle.raw_codegen.specs.Script.{Gives}
+use Rattle.raw_codegen.specs.Parts.{Gives}
 use Rattle.raw_route.specs.Planned.{store_part}
 use Rattle.raw_route.proofs.giving.give_haul.Goals as goal
 

@@ -1,5 +1,5 @@
 use Rattle.std.proofs.Common.{List, Err, ap, sym, subst}
-use Rattle.raw_codegen.specs.Script.{Part}
+use Rattle.raw_codegen.specs.Parts.{Part}
 use Rattle.raw_codegen.specs.Limits.{Overflows}
 use Rattle.raw_route.specs.Hauls.{Haulage}
 use Rattle.raw_route.proofs.HaulParts.{send_parts}

@@ -2,7 +2,7 @@ use Rattle.std.proofs.Common.{◌≡◌, ℕ, ◌+◌, ◌<◌, ◌≤◌, List,
 use Rattle.std.proofs.lemmas.List.{length-set, take_all}
 use Rattle.raw_switch_isa.specs.declared.limits.TheConstants.{MAX_SWITCH_CODE}
 use Rattle.raw_grid.specs.declared.parts.Net.{Net}
-use Rattle.raw_codegen.specs.Script.{ToTile, Gives}
+use Rattle.raw_codegen.specs.Parts.{ToTile, Gives}
 use Rattle.raw_codegen.specs.Limits.{Overflows}
 use Rattle.raw_codegen.specs.Rows.{register_of, store_ins}
 use Rattle.raw_route.specs.Hauls.{Haulage}

@@ -1,5 +1,5 @@
 use Rattle.std.proofs.Common.{◌≡◌, ℕ, List, [], ◌∷◌, ◌++◌, length, map, take}
-use Rattle.raw_codegen.specs.Script.{Gives}
+use Rattle.raw_codegen.specs.Parts.{Gives}
 use Rattle.raw_route.specs.Planned.{Sending, store_part}
 use Rattle.raw_route.specs.Counts.{AreCounts}
 use Rattle.raw_route.proofs.HaulParts.{first_targets}

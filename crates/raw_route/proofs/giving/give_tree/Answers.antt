@@ -1,5 +1,5 @@
 use Rattle.std.proofs.Common.{◌≡◌, ◌+◌, ◌*◌, ◌<◌, Err, length, ap, sym, subst, ◌∙◌}
-use Rattle.raw_codegen.specs.Script.{to_switches, Gives}
+use Rattle.raw_codegen.specs.Parts.{to_switches, Gives}
 use Rattle.raw_route.specs.Tree.{tree_ins}
 use Rattle.raw_route.proofs.HaulParts.{GivingLaws, tree_some, tree_none, tree_full}
 use Rattle.raw_route.proofs.giving.give_tree.Goals as goal

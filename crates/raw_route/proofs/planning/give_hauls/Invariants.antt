@@ -1,5 +1,5 @@
 use Rattle.std.proofs.Common.{◌≡◌, ◌*◌, [], take}
-use Rattle.raw_codegen.specs.Script.{programs_of}
+use Rattle.raw_codegen.specs.Parts.{programs_of}
 use Rattle.raw_route.specs.Planned.{sendings, parts_from}
 use Rattle.raw_route.specs.Counts.{AreCounts}
 use Rattle.raw_route.proofs.planning.give_hauls.Given as goal

@@ -9,8 +9,8 @@ use Rattle.raw_steps.specs.Taking.{numbers}
 use Rattle.raw_steps.specs.Checking.{IsAnswer}
 use Rattle.raw_owed.specs.Checked.{check_line}
 use Rattle.raw_shell.specs.Seen.{sink_seen}
-use Rattle.raw_command_line.specs.declared.words.ReadingCommand.TheVariants.{Check}
-use Rattle.raw_command_line.specs.declared.words.Command.TheVariants.{Reads}
+use Rattle.raw_command_line.specs.declared.arguments.ReadingCommand.TheVariants.{Check}
+use Rattle.raw_command_line.specs.declared.arguments.Command.TheVariants.{Reads}
 use Rattle.raw_run_commands.proofs.checked.check_history.Goals as goal
 
 pub returns : goal.returns

@@ -12,8 +12,8 @@ use Rattle.raw_shell.specs.Answers.{ending_of}
 use Rattle.raw_inputs.specs.Inputs.{whole}
 use Rattle.raw_owed.specs.Owed.{counted_text}
 use Rattle.raw_shell.specs.Seen.{sink_seen}
-use Rattle.raw_command_line.specs.declared.words.ReadingCommand.TheVariants.{Cycles}
-use Rattle.raw_command_line.specs.declared.words.Command.TheVariants.{Reads}
+use Rattle.raw_command_line.specs.declared.arguments.ReadingCommand.TheVariants.{Cycles}
+use Rattle.raw_command_line.specs.declared.arguments.Command.TheVariants.{Reads}
 use Rattle.raw_run_commands.proofs.clocked.run_cycles.Goals as goal
 
 pub lost_in-requires : goal.lost_in-requires

@@ -13,8 +13,8 @@ use Rattle.raw_set_text.specs.Listing.{listing}
 use Rattle.raw_owed.specs.Owed.{sources_in}
 use Rattle.raw_owed.specs.Owed.{written_as, traced}
 use Rattle.raw_shell.specs.Seen.{sink_seen}
-use Rattle.raw_command_line.specs.declared.words.ReadingCommand.TheVariants.{Trace}
-use Rattle.raw_command_line.specs.declared.words.Command.TheVariants.{Reads}
+use Rattle.raw_command_line.specs.declared.arguments.ReadingCommand.TheVariants.{Trace}
+use Rattle.raw_command_line.specs.declared.arguments.Command.TheVariants.{Reads}
 use Rattle.raw_run_commands.proofs.clocked.trace_set.Goals as goal
 
 pub returns : goal.returns

@@ -13,8 +13,8 @@ use Rattle.raw_generated.specs.Summary.{words_out, summary_line, summary_of}
 use Rattle.raw_shell.specs.Answers.{ending_of}
 use Rattle.raw_owed.specs.Owed.{IsWorkOutput}
 use Rattle.raw_shell.specs.Seen.{sink_seen}
-use Rattle.raw_command_line.specs.declared.words.AloneCommand.TheVariants.{Work}
-use Rattle.raw_command_line.specs.declared.words.Command.TheVariants.{Alone}
+use Rattle.raw_command_line.specs.declared.arguments.AloneCommand.TheVariants.{Work}
+use Rattle.raw_command_line.specs.declared.arguments.Command.TheVariants.{Alone}
 use Rattle.raw_run_commands.proofs.Summing.{topo_is, line_is, work_output}
 use Rattle.raw_run_commands.proofs.generated.run_generated.Goals as goal
 

@@ -11,8 +11,8 @@ use Rattle.raw_shell.specs.Seen.{sink_seen}
 use Rattle.raw_inputs.specs.Inputs.{whole}
 use Rattle.raw_shell.specs.Answers.{ending_of}
 use Rattle.raw_owed.specs.Owed.{run_text}
-use Rattle.raw_command_line.specs.declared.words.ReadingCommand.TheVariants.{Run}
-use Rattle.raw_command_line.specs.declared.words.Command.TheVariants.{Reads}
+use Rattle.raw_command_line.specs.declared.arguments.ReadingCommand.TheVariants.{Run}
+use Rattle.raw_command_line.specs.declared.arguments.Command.TheVariants.{Reads}
 use Rattle.raw_run_commands.proofs.runs.run_history.Goals as goal
 
 pub returns : goal.returns

@@ -9,9 +9,9 @@ use Rattle.raw_shell.specs.Answers.{ending_of}
 use Rattle.raw_shell.specs.Seen.{sink_seen}
 use Rattle.raw_inputs.specs.Inputs.{whole}
 use Rattle.raw_owed.specs.Owed.{IsRunOutput, run_text}
-use Rattle.raw_command_line.specs.declared.words.RunOutput.TheVariants.{State}
-use Rattle.raw_command_line.specs.declared.words.ReadingCommand.TheVariants.{Run}
-use Rattle.raw_command_line.specs.declared.words.Command.TheVariants.{Reads}
+use Rattle.raw_command_line.specs.declared.arguments.RunOutput.TheVariants.{State}
+use Rattle.raw_command_line.specs.declared.arguments.ReadingCommand.TheVariants.{Run}
+use Rattle.raw_command_line.specs.declared.arguments.Command.TheVariants.{Reads}
 use Rattle.raw_run_commands.proofs.Outputs.{run_output}
 use Rattle.raw_run_commands.proofs.runs.run_to_rest.Goals as goal
 

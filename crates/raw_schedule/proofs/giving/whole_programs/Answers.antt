@@ -1,6 +1,6 @@
 use Rattle.std.proofs.Common.{[], length, ap, ◌∙◌}
 use Rattle.std.proofs.lemmas.List.FromFn.{length-map-range_with_len}
-use Rattle.raw_codegen.specs.Script.{program_of}
+use Rattle.raw_codegen.specs.Parts.{program_of}
 use Rattle.raw_schedule.proofs.giving.whole_programs.Goals as goal
 
 pub give_all-requires : goal.give_all-requires

@@ -1,5 +1,5 @@
 use Rattle.std.proofs.Common.{◌≡◌, [], ap, ◌∙◌}
-use Rattle.raw_codegen.specs.Script.{script_programs}
+use Rattle.raw_codegen.specs.Parts.{script_programs}
 use Rattle.raw_grid.specs.Topology.{tile_count}
 use Rattle.raw_cut.proofs.Copies.{some_so}
 use Rattle.raw_stream_choice.proofs.Lawful.{PartsLaws, idle_is_set}

@@ -12,7 +12,7 @@ use Rattle.raw_stream_text.specs.Seated.{IsNear}
 use Rattle.raw_stream_text.specs.Forms.{line_statement}
 use Rattle.raw_stream_text.specs.Faults.{line_fault}
 use Rattle.raw_stream_text.specs.Meaning.{said_before, said_in, fault_at, IsMeaning, IsCause}
-use Rattle.raw_stream_text.specs.Building.{Stands}
+use Rattle.raw_stream_text.specs.Building.{BuilderStands}
 use Rattle.raw_stream_text.proofs.Next.{said_next, said_split_at, few_said}
 use Rattle.raw_stream_text.proofs.Passing.{line_passes, line_refused, end_refused, end_meant, all_sound}
 use Rattle.raw_stream_text.proofs.Ending.{meant_fed}
@@ -49,8 +49,8 @@ loop-place-preserved c =
     let kept = c.in_ok-add_line.ensures {u = tt} in
     let split = said_split_at lines k (tokens_of c.line.result) lt c.line.ensures in
     record {
-      stands = subst (Stands c.add_line.new.self (said_in lines)) (sym (said_next lines k lt))
-          (subst (λ line. Stands c.add_line.new.self (said_in lines) (said_before lines k ++ option_to_list (line_statement line))) c.line.ensures
+      stands = subst (BuilderStands c.add_line.new.self (said_in lines)) (sym (said_next lines k lt))
+          (subst (λ line. BuilderStands c.add_line.new.self (said_in lines) (said_before lines k ++ option_to_list (line_statement line))) c.line.ensures
           (kept.stands (said_in lines) (said_before lines k) rest c.in_ok-named.ensures split c.loop-place.invariant.stands));
       faultless = line_passes claimed c.args.from lines k lt c.loop-place.invariant.faultless
           (ap (line_fault claimed (said_in lines) (said_before lines k)) (sym c.line.ensures) ∙ kept.fault (said_in lines) (said_before lines k) rest c.in_ok-named.ensures split c.loop-place.invariant.stands);
@@ -62,9 +62,9 @@ finish-requires c =
     let lines = section_lines c.new-lines.result in
     let last : c.loop-place.place ≡ length lines = omega arith in
     let faultless = subst (AreFaultless (fault_at claimed lines)) last c.loop-place.invariant.faultless in
-    let stands = subst (λ k. Stands c.loop-place.builder (said_in lines) (said_before lines k)) last c.loop-place.invariant.stands in
+    let stands = subst (λ k. BuilderStands c.loop-place.builder (said_in lines) (said_before lines k)) last c.loop-place.invariant.stands in
     let said : said_before lines (length lines) ≡ said_in lines = ap (filter_map line_statement) (take_all (length lines) lines (omega arith)) in
-    let all_stand = subst (Stands c.loop-place.builder (said_in lines)) said stands in
+    let all_stand = subst (BuilderStands c.loop-place.builder (said_in lines)) said stands in
     let sound = all_sound claimed c.args.from lines faultless in
     let few : length (said_in lines) ≤ length lines = few_said line_statement lines in
     let nodes = few_nodes c.loop-place.builder (said_in lines) (length lines) few all_stand in
@@ -82,9 +82,9 @@ returns-clause-meaning c =
     let lines = section_lines c.new-lines.result in
     let last : c.loop-place.place ≡ length lines = omega arith in
     let faultless = subst (AreFaultless (fault_at claimed lines)) last c.loop-place.invariant.faultless in
-    let stands = subst (λ k. Stands c.loop-place.builder (said_in lines) (said_before lines k)) last c.loop-place.invariant.stands in
+    let stands = subst (λ k. BuilderStands c.loop-place.builder (said_in lines) (said_before lines k)) last c.loop-place.invariant.stands in
     let said : said_before lines (length lines) ≡ said_in lines = ap (filter_map line_statement) (take_all (length lines) lines (omega arith)) in
-    let all_stand = subst (Stands c.loop-place.builder (said_in lines)) said stands in
+    let all_stand = subst (BuilderStands c.loop-place.builder (said_in lines)) said stands in
     let whole : lines ≡ drop c.args.from (text_lines c.args.text.now) = c.new-lines.ensures.lines ∙ ap (λ n. take (n - c.args.from) (drop c.args.from (text_lines c.args.text.now))) c.line_count.ensures.count ∙ take_rest (text_lines c.args.text.now) c.args.from in
     subst (λ all. IfOk c.finish.result (IsMeaning claimed all)) whole
     (end_meant claimed c.args.from lines c.finish.result _ faultless (c.finish.ensures.fault (said_in lines) c.in_ok-named.ensures all_stand) (c.finish.ensures.fed (said_in lines) c.in_ok-named.ensures all_stand))
@@ -95,9 +95,9 @@ returns-clause-cause c =
     let lines = section_lines c.new-lines.result in
     let last : c.loop-place.place ≡ length lines = omega arith in
     let faultless = subst (AreFaultless (fault_at claimed lines)) last c.loop-place.invariant.faultless in
-    let stands = subst (λ k. Stands c.loop-place.builder (said_in lines) (said_before lines k)) last c.loop-place.invariant.stands in
+    let stands = subst (λ k. BuilderStands c.loop-place.builder (said_in lines) (said_before lines k)) last c.loop-place.invariant.stands in
     let said : said_before lines (length lines) ≡ said_in lines = ap (filter_map line_statement) (take_all (length lines) lines (omega arith)) in
-    let all_stand = subst (Stands c.loop-place.builder (said_in lines)) said stands in
+    let all_stand = subst (BuilderStands c.loop-place.builder (said_in lines)) said stands in
     let whole : lines ≡ drop c.args.from (text_lines c.args.text.now) = c.new-lines.ensures.lines ∙ ap (λ n. take (n - c.args.from) (drop c.args.from (text_lines c.args.text.now))) c.line_count.ensures.count ∙ take_rest (text_lines c.args.text.now) c.args.from in
     let long : length lines ≡ length (text_lines c.args.text.now) - c.args.from = ap length whole ∙ length-drop c.args.from (text_lines c.args.text.now) in
     subst (λ all. IfErr c.finish.result (IsCause claimed c.args.from all)) whole
@@ -109,8 +109,8 @@ returns-clause-fed c =
     let lines = section_lines c.new-lines.result in
     let last : c.loop-place.place ≡ length lines = omega arith in
     let faultless = subst (AreFaultless (fault_at claimed lines)) last c.loop-place.invariant.faultless in
-    let stands = subst (λ k. Stands c.loop-place.builder (said_in lines) (said_before lines k)) last c.loop-place.invariant.stands in
+    let stands = subst (λ k. BuilderStands c.loop-place.builder (said_in lines) (said_before lines k)) last c.loop-place.invariant.stands in
     let said : said_before lines (length lines) ≡ said_in lines = ap (filter_map line_statement) (take_all (length lines) lines (omega arith)) in
-    let all_stand = subst (Stands c.loop-place.builder (said_in lines)) said stands in
+    let all_stand = subst (BuilderStands c.loop-place.builder (said_in lines)) said stands in
     meant_fed claimed lines c.finish.result
     (end_meant claimed c.args.from lines c.finish.result _ faultless (c.finish.ensures.fault (said_in lines) c.in_ok-named.ensures all_stand) (c.finish.ensures.fed (said_in lines) c.in_ok-named.ensures all_stand))

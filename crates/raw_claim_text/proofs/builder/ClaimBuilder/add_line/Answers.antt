@@ -4,7 +4,7 @@ use Rattle.std.specs.Option.{option_to_list}
 use Rattle.raw_asm.specs.Tokens.{tokens_of}
 use Rattle.raw_set_text.specs.declared.kind.SetRefusal.{SetRefusal}
 use Rattle.raw_flow_text.specs.Forms.{line_statement}
-use Rattle.raw_flow_text.specs.Building.{Stands as FlowStands}
+use Rattle.raw_flow_text.specs.Building.{BuilderStands as FlowStands}
 use Rattle.raw_term.specs.declared.place.Place.{Place}
 use Rattle.raw_claim_text.specs.Forms.{plain_line}
 use Rattle.raw_claim_text.specs.Placing.{place_said, place_in, said_in}

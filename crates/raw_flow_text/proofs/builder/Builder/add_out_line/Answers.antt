@@ -2,7 +2,7 @@ use Rattle.std.proofs.Common.{◌≡◌, Bool, true, false, not, List, Some, ref
 use Rattle.std.specs.Prelude.{OnOk}
 use Rattle.std.specs.Option.{is_none, option_to_list}
 use Rattle.raw_flow_text.specs.Statement.{Statement}
-use Rattle.raw_flow_text.specs.Building.{Stands, Answers}
+use Rattle.raw_flow_text.specs.Building.{BuilderStands, Answers}
 use Rattle.raw_flow_text.proofs.OutLine.{says, missing, unnamed, named}
 use Rattle.raw_flow_text.proofs.builder.Builder.add_out_line.Goals as goal
 

@@ -1,6 +1,6 @@
 //! The words of a call that both programs know.
 ghost use Rattle.std.specs.Prelude.{◌≡◌};
-ghost use Rattle.raw_shell.specs.Words.{fixed_text, workers_of, text_of};
+ghost use Rattle.raw_shell.specs.Arguments.{fixed_text, workers_of, fixed_text_by};
 
 use raw_fabric_rule::Workers;
 
@@ -16,7 +16,7 @@ pub enum FixedText {
 impl FixedText {
     /// The text, of a program whose help and version these are.
     pub fn of<'t>(self, help: &'t [u8], version: &'t [u8]) -> &'t [u8]
-        ensures { result.now ≡ text_of help.now version.now self }
+        ensures { result.now ≡ fixed_text_by help.now version.now self }
     {
         match self {
             FixedText::Help => help,
@@ -26,7 +26,7 @@ impl FixedText {
 }
 
 /// The fixed text that one word asks for; None where it asks for none.
-#[tactic(auto, unfolding(crate::specs::Words::fixed_text))]
+#[tactic(auto, unfolding(crate::specs::Arguments::fixed_text))]
 pub fn fixed_text(word: &[u8]) -> Option<FixedText>
     ensures { result ≡ fixed_text word.now }
 {

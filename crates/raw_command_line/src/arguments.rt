@@ -2,8 +2,8 @@
 ghost use Rattle.std.specs.Prelude.{◌≡◌, ◌&&◌, map, string_bytes, IfSome, is_none};
 ghost use Rattle.std.specs.Option.{option_and_then};
 ghost use Rattle.raw_text.specs.Number.{number_of};
-ghost use Rattle.raw_command_line.specs.Words.{asks_live_proof, other_command, command_of, command_named, options_of, plain_option, takes_number, workers_option, cycles_option, number_option, said_once, with_option, with_first, form_said, made_said, endless_said, flow_set, is_whole, is_lost, is_endless, has_no_cycles, has_neither, where_free, run_of, cycles_of, trace_of, flow_of, plain, work_on, work_of, IsLawfulCommand};
-ghost use Rattle.raw_command_line.specs.declared.words.Command.TheVariants.{Reads};
+ghost use Rattle.raw_command_line.specs.Arguments.{asks_live_proof, other_command, command_of, command_named, options_of, plain_option, takes_number, workers_option, cycles_option, number_option, said_once, with_option, with_first, form_said, made_said, endless_said, flow_set, is_whole, is_lost, is_endless, has_no_cycles, has_run_options_alone, unless_extra, run_of, cycles_of, trace_of, flow_of, without_options, work_on, work_of, IsLawfulCommand};
+ghost use Rattle.raw_command_line.specs.declared.arguments.Command.TheVariants.{Reads};
 
 use crate::limits::MAX_TRACE_CYCLES;
 use raw_fabric_rule::Workers;
@@ -203,7 +203,7 @@ pub struct Options {
 }
 
 // The option that one word is; None where it is none.
-#[tactic(auto, unfolding(crate::specs::Words::plain_option))]
+#[tactic(auto, unfolding(crate::specs::Arguments::plain_option))]
 fn plain_option(word: &[u8]) -> Option<CommandOption>
     ensures { result ≡ plain_option word.now }
 {
@@ -227,7 +227,7 @@ fn plain_option(word: &[u8]) -> Option<CommandOption>
 }
 
 // Whether an option has a number behind it.
-#[tactic(auto, unfolding(crate::specs::Words::takes_number))]
+#[tactic(auto, unfolding(crate::specs::Arguments::takes_number))]
 fn takes_number(word: &[u8]) -> bool
     ensures { result ≡ takes_number word.now }
 {
@@ -253,7 +253,7 @@ fn cycles_option(number: u32) -> Option<CommandOption>
 }
 
 // The option that a word and a number are; None where they are none.
-#[tactic(auto, unfolding(crate::specs::Words::number_option))]
+#[tactic(auto, unfolding(crate::specs::Arguments::number_option))]
 fn number_option(word: &[u8], number: u32) -> Option<CommandOption>
     ensures { result ≡ number_option word.now number }
 {
@@ -428,16 +428,16 @@ fn has_no_cycles(said: Options) -> bool
 }
 
 // Whether nothing is said that speaks of a trace, of what is written beside or of what is made of a flow.
-fn has_neither(said: Options) -> bool
-    ensures { result ≡ has_neither said }
+fn has_run_options_alone(said: Options) -> bool
+    ensures { result ≡ has_run_options_alone said }
 {
     said.made.is_none() && has_no_cycles(said)
 }
 
 // A command, where no option is said that it does not take.
-fn where_free(free: bool, command: Command) -> Option<Command>
+fn unless_extra(free: bool, command: Command) -> Option<Command>
     requires { IsLawfulCommand command }
-    ensures command { result ≡ where_free free command }
+    ensures command { result ≡ unless_extra free command }
     ensures range { IfSome result IsLawfulCommand }
 {
     if free { Some(command) } else { None }
@@ -453,8 +453,8 @@ fn run_of(output: RunOutput, said: Options) -> Option<Command>
         form: form_said(said.form),
         workers: said.workers,
     };
-    where_free(
-        has_neither(said),
+    unless_extra(
+        has_run_options_alone(said),
         Command::Reads(ReadingCommand::Run(options)),
     )
 }
@@ -468,7 +468,7 @@ fn cycles_of(said: Options) -> Option<Command>
         form: form_said(said.form),
         lost: is_lost(said.more),
     };
-    where_free(
+    unless_extra(
         said.workers.is_none()
             && said.made.is_none()
             && said.from.is_none()
@@ -491,7 +491,7 @@ fn trace_of(output: TraceOutput, said: Options) -> Option<Command>
         cycles: said.cycles,
         whole: is_whole(said.more),
     };
-    where_free(
+    unless_extra(
         said.workers.is_none()
             && said.made.is_none()
             && !is_lost(said.more)
@@ -501,12 +501,12 @@ fn trace_of(output: TraceOutput, said: Options) -> Option<Command>
 }
 
 // A command that takes the form of its set alone, with this form.
-fn formed(command: ReadingCommand, said: Options) -> Option<Command>
-    ensures command { result ≡ where_free (is_none said.workers && has_neither said) (Reads command) }
+fn with_form_alone(command: ReadingCommand, said: Options) -> Option<Command>
+    ensures command { result ≡ unless_extra (is_none said.workers && has_run_options_alone said) (Reads command) }
     ensures range { IfSome result IsLawfulCommand }
 {
-    where_free(
-        said.workers.is_none() && has_neither(said),
+    unless_extra(
+        said.workers.is_none() && has_run_options_alone(said),
         Command::Reads(command),
     )
 }
@@ -528,7 +528,7 @@ fn flow_of(said: Options) -> Option<Command>
     ensures range { IfSome result IsLawfulCommand }
 {
     match flow_set(said.made, said.more) {
-        Some(set) => where_free(
+        Some(set) => unless_extra(
             said.form.is_none()
                 && said.workers.is_none()
                 && said.from.is_none()
@@ -540,25 +540,25 @@ fn flow_of(said: Options) -> Option<Command>
 }
 
 // A command that takes no option.
-fn plain(command: Command, said: Options) -> Option<Command>
+fn without_options(command: Command, said: Options) -> Option<Command>
     requires { IsLawfulCommand command }
-    ensures command { result ≡ plain command said }
+    ensures command { result ≡ without_options command said }
     ensures range { IfSome result IsLawfulCommand }
 {
-    let free = said.form.is_none() && said.workers.is_none() && has_neither(said);
-    where_free(free, command)
+    let free = said.form.is_none() && said.workers.is_none() && has_run_options_alone(said);
+    unless_extra(free, command)
 }
 
 // The command of this name, with what its options say.
-#[tactic(auto, unfolding(crate::specs::Words::command_named))]
-fn named(name: &[u8], said: Options) -> Option<Command>
+#[tactic(auto, unfolding(crate::specs::Arguments::command_named))]
+fn command_named(name: &[u8], said: Options) -> Option<Command>
     ensures command { result ≡ command_named name.now said }
     ensures range { IfSome result IsLawfulCommand }
 {
     if name == "--help".as_bytes() {
-        plain(Command::Alone(AloneCommand::Fixed(FixedText::Help)), said)
+        without_options(Command::Alone(AloneCommand::Fixed(FixedText::Help)), said)
     } else if name == "--version".as_bytes() {
-        plain(
+        without_options(
             Command::Alone(AloneCommand::Fixed(FixedText::Version)),
             said,
         )
@@ -571,33 +571,33 @@ fn named(name: &[u8], said: Options) -> Option<Command>
     } else if name == "cycles".as_bytes() {
         cycles_of(said)
     } else if name == "path".as_bytes() {
-        formed(ReadingCommand::Path(form_said(said.form)), said)
+        with_form_alone(ReadingCommand::Path(form_said(said.form)), said)
     } else if name == "trace".as_bytes() {
         trace_of(TraceOutput::Lines, said)
     } else if name == "explore".as_bytes() {
         trace_of(TraceOutput::Page, said)
     } else if name == "depths".as_bytes() {
-        formed(ReadingCommand::Depths(form_said(said.form)), said)
+        with_form_alone(ReadingCommand::Depths(form_said(said.form)), said)
     } else if name == "steady".as_bytes() {
-        formed(ReadingCommand::Steady(form_said(said.form)), said)
+        with_form_alone(ReadingCommand::Steady(form_said(said.form)), said)
     } else if name == "names".as_bytes() {
-        formed(ReadingCommand::Names(form_said(said.form)), said)
+        with_form_alone(ReadingCommand::Names(form_said(said.form)), said)
     } else if name == "lines".as_bytes() {
-        plain(Command::Reads(ReadingCommand::Lines), said)
+        without_options(Command::Reads(ReadingCommand::Lines), said)
     } else if name == "asm".as_bytes() {
-        plain(Command::Reads(ReadingCommand::Asm), said)
+        without_options(Command::Reads(ReadingCommand::Asm), said)
     } else if name == "list".as_bytes() {
-        plain(Command::Reads(ReadingCommand::List), said)
+        without_options(Command::Reads(ReadingCommand::List), said)
     } else if name == "plan".as_bytes() {
-        plain(Command::Reads(ReadingCommand::Plan), said)
+        without_options(Command::Reads(ReadingCommand::Plan), said)
     } else if name == "flow".as_bytes() {
         flow_of(said)
     } else if name == "check".as_bytes() {
-        plain(Command::Reads(ReadingCommand::Check), said)
+        without_options(Command::Reads(ReadingCommand::Check), said)
     } else if name == "debug".as_bytes() {
-        plain(Command::Reads(ReadingCommand::Debug), said)
+        without_options(Command::Reads(ReadingCommand::Debug), said)
     } else if name == "prove".as_bytes() {
-        plain(Command::Reads(ReadingCommand::Prove), said)
+        without_options(Command::Reads(ReadingCommand::Prove), said)
     } else {
         None
     }
@@ -611,7 +611,7 @@ fn work_on(said: Options, words: u32) -> Option<Command>
     if 1 <= words && words <= MAX_GENERATED_WORDS {
         let workers = said.workers;
         let work = Command::Alone(AloneCommand::Work { words, workers });
-        where_free(said.form.is_none() && has_neither(said), work)
+        unless_extra(said.form.is_none() && has_run_options_alone(said), work)
     } else {
         None
     }
@@ -648,7 +648,7 @@ fn named_with(name: &String, options: &[String]) -> Option<Command>
     ensures range { IfSome result IsLawfulCommand }
 {
     match options_of(options) {
-        Some(said) => named(name.as_str().as_bytes(), said),
+        Some(said) => command_named(name.as_str().as_bytes(), said),
         None => None,
     }
 }

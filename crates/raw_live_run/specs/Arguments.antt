@@ -3,9 +3,9 @@ use Rattle.std.specs.Prelude.{ℕ, List, [], ◌∷◌, codes, Option, Some, Non
 use Rattle.std.specs.Option.{option_map, option_and_then}
 use Rattle.std.specs.Str.{bytes_eq}
 use Rattle.raw_text.specs.Number.{number_of}
-use Rattle.raw_shell.specs.Words.{fixed_text, workers_of}
-use Rattle.raw_live_run.specs.declared.words.Command.{Command}
-use Rattle.raw_live_run.specs.declared.words.Command.TheVariants.{Fixed, Feed}
+use Rattle.raw_shell.specs.Arguments.{fixed_text, workers_of}
+use Rattle.raw_live_run.specs.declared.arguments.Command.{Command}
+use Rattle.raw_live_run.specs.declared.arguments.Command.TheVariants.{Fixed, Feed}
 
 -- the command that one word is
 abbrev pub alone_of : List ℕ → Option Command

@@ -1,7 +1,7 @@
 use Rattle.std.proofs.Common.{◌≡◌, Some, length, map}
 use Rattle.std.specs.Prelude.{string_bytes}
-use Rattle.raw_command_line.specs.Words.{options_of, with_words}
-use Rattle.raw_command_line.proofs.words.options_of.Given as goal
+use Rattle.raw_command_line.specs.Arguments.{options_of, with_words}
+use Rattle.raw_command_line.proofs.arguments.options_of.Given as goal
 
 abbrev pub invariant-options : goal.invariant-options
 invariant-options l =

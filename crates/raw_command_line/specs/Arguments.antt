@@ -4,29 +4,29 @@ use Rattle.std.specs.Option.{option_map, option_and_then}
 use Rattle.std.specs.Str.{bytes_eq}
 use Rattle.raw_text.specs.Number.{number_of}
 use Rattle.raw_generated.specs.declared.limits.TheConstants.{MAX_GENERATED_WORDS}
-use Rattle.raw_shell.specs.Words.{workers_of}
-use Rattle.raw_shell.specs.declared.words.FixedText.TheVariants.{Help, Version}
-use Rattle.raw_command_line.specs.declared.words.AloneCommand.{AloneCommand}
-use Rattle.raw_command_line.specs.declared.words.AloneCommand.TheVariants.{Fixed, Work}
-use Rattle.raw_command_line.specs.declared.words.SetForm.{SetForm}
-use Rattle.raw_command_line.specs.declared.words.SetForm.TheVariants.{Text, Image, Plan, Flow}
-use Rattle.raw_command_line.specs.declared.words.StateOutput.TheVariants.{Report, Picture}
-use Rattle.raw_command_line.specs.declared.words.RunOutput.{RunOutput}
-use Rattle.raw_command_line.specs.declared.words.RunOutput.TheVariants.{State, History}
-use Rattle.raw_command_line.specs.declared.words.TraceOutput.{TraceOutput}
-use Rattle.raw_command_line.specs.declared.words.TraceOutput.TheVariants.{Lines, Page}
+use Rattle.raw_shell.specs.Arguments.{workers_of}
+use Rattle.raw_shell.specs.declared.arguments.FixedText.TheVariants.{Help, Version}
+use Rattle.raw_command_line.specs.declared.arguments.AloneCommand.{AloneCommand}
+use Rattle.raw_command_line.specs.declared.arguments.AloneCommand.TheVariants.{Fixed, Work}
+use Rattle.raw_command_line.specs.declared.arguments.SetForm.{SetForm}
+use Rattle.raw_command_line.specs.declared.arguments.SetForm.TheVariants.{Text, Image, Plan, Flow}
+use Rattle.raw_command_line.specs.declared.arguments.StateOutput.TheVariants.{Report, Picture}
+use Rattle.raw_command_line.specs.declared.arguments.RunOutput.{RunOutput}
+use Rattle.raw_command_line.specs.declared.arguments.RunOutput.TheVariants.{State, History}
+use Rattle.raw_command_line.specs.declared.arguments.TraceOutput.{TraceOutput}
+use Rattle.raw_command_line.specs.declared.arguments.TraceOutput.TheVariants.{Lines, Page}
 use Rattle.raw_command_line.specs.declared.limits.TheConstants.{MAX_TRACE_CYCLES}
-use Rattle.raw_command_line.specs.declared.words.FlowSet.{FlowSet}
-use Rattle.raw_command_line.specs.declared.words.FlowSet.TheVariants.{Compiled, Scheduled, Endless}
-use Rattle.raw_command_line.specs.declared.words.Extra.{Extra}
-use Rattle.raw_command_line.specs.declared.words.Extra.TheVariants.{Whole, Lost, Endless as EndlessRows}
-use Rattle.raw_command_line.specs.declared.words.CommandOption.{CommandOption}
-use Rattle.raw_command_line.specs.declared.words.Options.{Options}
-use Rattle.raw_command_line.specs.declared.words.CommandOption.TheVariants as option
-use Rattle.raw_command_line.specs.declared.words.ReadingCommand.{ReadingCommand}
-use Rattle.raw_command_line.specs.declared.words.ReadingCommand.TheVariants as reading
-use Rattle.raw_command_line.specs.declared.words.Command.{Command}
-use Rattle.raw_command_line.specs.declared.words.Command.TheVariants.{Alone, Reads}
+use Rattle.raw_command_line.specs.declared.arguments.FlowSet.{FlowSet}
+use Rattle.raw_command_line.specs.declared.arguments.FlowSet.TheVariants.{Compiled, Scheduled, Endless}
+use Rattle.raw_command_line.specs.declared.arguments.Extra.{Extra}
+use Rattle.raw_command_line.specs.declared.arguments.Extra.TheVariants.{Whole, Lost, Endless as EndlessRows}
+use Rattle.raw_command_line.specs.declared.arguments.CommandOption.{CommandOption}
+use Rattle.raw_command_line.specs.declared.arguments.Options.{Options}
+use Rattle.raw_command_line.specs.declared.arguments.CommandOption.TheVariants as option
+use Rattle.raw_command_line.specs.declared.arguments.ReadingCommand.{ReadingCommand}
+use Rattle.raw_command_line.specs.declared.arguments.ReadingCommand.TheVariants as reading
+use Rattle.raw_command_line.specs.declared.arguments.Command.{Command}
+use Rattle.raw_command_line.specs.declared.arguments.Command.TheVariants.{Alone, Reads}
 
 -- ---- options
 
@@ -136,8 +136,8 @@ flow_set made (Some EndlessRows) = endless_said made
 flow_set made (Some _) = None
 
 -- a command, where no option is said that it does not take
-abbrev pub where_free : Bool → Command → Option Command
-where_free free command = if free then Some command else None
+abbrev pub unless_extra : Bool → Command → Option Command
+unless_extra free command = if free then Some command else None
 
 -- the lines of the whole run are asked for,
 abbrev pub is_whole : Option Extra → Bool
@@ -159,69 +159,69 @@ abbrev pub has_no_cycles : Options → Bool
 has_no_cycles said = is_none said.from && is_none said.cycles && is_none said.more
 
 -- nothing is said that speaks of a trace, of what is written beside or of what is made of a flow
-abbrev pub has_neither : Options → Bool
-has_neither said = is_none said.made && has_no_cycles said
+abbrev pub has_run_options_alone : Options → Bool
+has_run_options_alone said = is_none said.made && has_no_cycles said
 
 -- a run takes the form of its set, and a number of workers
 abbrev pub run_of : RunOutput → Options → Option Command
 run_of output said =
-    where_free (has_neither said) (Reads (reading.Run (record { output = output; form = form_said said.form; workers = said.workers })))
+    unless_extra (has_run_options_alone said) (Reads (reading.Run (record { output = output; form = form_said said.form; workers = said.workers })))
 
 -- `cycles` takes the form of its set, and whether it has the lines of lost cycles
 abbrev pub cycles_of : Options → Option Command
 cycles_of said =
-    where_free (is_none said.workers && is_none said.made && is_none said.from && is_none said.cycles && not (is_whole said.more) && not (is_endless said.more))
+    unless_extra (is_none said.workers && is_none said.made && is_none said.from && is_none said.cycles && not (is_whole said.more) && not (is_endless said.more))
     (Reads (reading.Cycles (record { form = form_said said.form; lost = is_lost said.more })))
 
 -- a trace takes the form of its set, its first cycle, how many it has at most, and whether it has the whole run
 abbrev pub trace_of : TraceOutput → Options → Option Command
 trace_of output said =
-    where_free (is_none said.workers && is_none said.made && not (is_lost said.more) && not (is_endless said.more))
+    unless_extra (is_none said.workers && is_none said.made && not (is_lost said.more) && not (is_endless said.more))
     (Reads (reading.Trace (record { output = output; form = form_said said.form; from = said.from; cycles = said.cycles; whole = is_whole said.more })))
 
 -- these take the form of their set
-abbrev pub formed : (SetForm → ReadingCommand) → Options → Option Command
-formed command said = where_free (is_none said.workers && has_neither said) (Reads (command (form_said said.form)))
+abbrev pub with_form_alone : (SetForm → ReadingCommand) → Options → Option Command
+with_form_alone command said = unless_extra (is_none said.workers && has_run_options_alone said) (Reads (command (form_said said.form)))
 
 -- `flow` takes which set is written of its flow
 abbrev pub flow_of : Options → Option Command
 flow_of said =
-    option_and_then (λ set. where_free (is_none said.form && is_none said.workers && is_none said.from && is_none said.cycles) (Reads (reading.Flow set)))
+    option_and_then (λ set. unless_extra (is_none said.form && is_none said.workers && is_none said.from && is_none said.cycles) (Reads (reading.Flow set)))
     (flow_set said.made said.more)
 
 -- these take no option
-abbrev pub plain : Command → Options → Option Command
-plain command said = where_free (is_none said.form && is_none said.workers && has_neither said) command
+abbrev pub without_options : Command → Options → Option Command
+without_options command said = unless_extra (is_none said.form && is_none said.workers && has_run_options_alone said) command
 
 -- the command of this name
 unfoldable pub command_named : List ℕ → Options → Option Command
 command_named name said =
-    if bytes_eq name (codes "--help") then plain (Alone (Fixed Help)) said
-    else (if bytes_eq name (codes "--version") then plain (Alone (Fixed Version)) said
+    if bytes_eq name (codes "--help") then without_options (Alone (Fixed Help)) said
+    else (if bytes_eq name (codes "--version") then without_options (Alone (Fixed Version)) said
     else (if bytes_eq name (codes "run") then run_of (State Report) said
     else (if bytes_eq name (codes "picture") then run_of (State Picture) said
     else (if bytes_eq name (codes "history") then run_of History said
     else (if bytes_eq name (codes "cycles") then cycles_of said
-    else (if bytes_eq name (codes "path") then formed reading.Path said
+    else (if bytes_eq name (codes "path") then with_form_alone reading.Path said
     else (if bytes_eq name (codes "trace") then trace_of Lines said
     else (if bytes_eq name (codes "explore") then trace_of Page said
-    else (if bytes_eq name (codes "depths") then formed reading.Depths said
-    else (if bytes_eq name (codes "steady") then formed reading.Steady said
-    else (if bytes_eq name (codes "names") then formed reading.Names said
-    else (if bytes_eq name (codes "lines") then plain (Reads reading.Lines) said
-    else (if bytes_eq name (codes "asm") then plain (Reads reading.Asm) said
-    else (if bytes_eq name (codes "list") then plain (Reads reading.List) said
-    else (if bytes_eq name (codes "plan") then plain (Reads reading.Plan) said
+    else (if bytes_eq name (codes "depths") then with_form_alone reading.Depths said
+    else (if bytes_eq name (codes "steady") then with_form_alone reading.Steady said
+    else (if bytes_eq name (codes "names") then with_form_alone reading.Names said
+    else (if bytes_eq name (codes "lines") then without_options (Reads reading.Lines) said
+    else (if bytes_eq name (codes "asm") then without_options (Reads reading.Asm) said
+    else (if bytes_eq name (codes "list") then without_options (Reads reading.List) said
+    else (if bytes_eq name (codes "plan") then without_options (Reads reading.Plan) said
     else (if bytes_eq name (codes "flow") then flow_of said
-    else (if bytes_eq name (codes "check") then plain (Reads reading.Check) said
-    else (if bytes_eq name (codes "debug") then plain (Reads reading.Debug) said
-    else (if bytes_eq name (codes "prove") then plain (Reads reading.Prove) said
+    else (if bytes_eq name (codes "check") then without_options (Reads reading.Check) said
+    else (if bytes_eq name (codes "debug") then without_options (Reads reading.Debug) said
+    else (if bytes_eq name (codes "prove") then without_options (Reads reading.Prove) said
     else None)))))))))))))))))))
 
 -- `work` on so many words, 1 to 100,000: it takes a number of workers
 abbrev pub work_on : Options → ℕ → Option Command
 work_on said n =
-    if nat_le 1 n && nat_le n MAX_GENERATED_WORDS then where_free (is_none said.form && has_neither said) (Alone (Work n said.workers)) else None
+    if nat_le 1 n && nat_le n MAX_GENERATED_WORDS then unless_extra (is_none said.form && has_run_options_alone said) (Alone (Work n said.workers)) else None
 
 -- `work` and these words behind it: a number, and then options
 abbrev pub work_of : List (List ℕ) → Option Command

@@ -2,8 +2,8 @@
 ghost use Rattle.std.specs.Prelude.{◌≡◌, map, string_bytes};
 ghost use Rattle.std.specs.Option.{option_and_then};
 ghost use Rattle.raw_text.specs.Number.{number_of};
-ghost use Rattle.raw_shell.specs.Words.{workers_of};
-ghost use Rattle.raw_live_run.specs.Words.{command_of, alone_of, with_workers};
+ghost use Rattle.raw_shell.specs.Arguments.{workers_of};
+ghost use Rattle.raw_live_run.specs.Arguments.{command_of, alone_of, with_workers};
 
 use raw_shell::{FixedText, fixed_text, workers_of};
 use raw_text::number;

@@ -2,8 +2,8 @@
 use Rattle.std.specs.Prelude.{ℕ, ◌&&◌, List, codes, Option, Some, None, nat_le, if◌then◌else◌}
 use Rattle.std.specs.Str.{bytes_eq}
 use Rattle.raw_fabric_rule.specs.declared.workers.TheConstants.{MAX_WORKERS}
-use Rattle.raw_shell.specs.declared.words.FixedText.{FixedText}
-use Rattle.raw_shell.specs.declared.words.FixedText.TheVariants.{Help, Version}
+use Rattle.raw_shell.specs.declared.arguments.FixedText.{FixedText}
+use Rattle.raw_shell.specs.declared.arguments.FixedText.TheVariants.{Help, Version}
 
 -- the fixed text that one word asks for
 unfoldable pub fixed_text : List ℕ → Option FixedText
@@ -13,9 +13,9 @@ fixed_text word =
     else None)
 
 -- a fixed text, of a program whose help and version these are
-abbrev pub text_of : List ℕ → List ℕ → FixedText → List ℕ
-text_of help version Help = help
-text_of help version Version = version
+abbrev pub fixed_text_by : List ℕ → List ℕ → FixedText → List ℕ
+fixed_text_by help version Help = help
+fixed_text_by help version Version = version
 
 -- how many workers a number says: 1 to 64
 abbrev pub workers_of : ℕ → Option ℕ

@@ -1,8 +1,8 @@
 use Rattle.std.proofs.Common.{◌≡◌, true, false, Some, ◌∷◌, map, ap, sym, ◌∙◌}
 use Rattle.std.specs.Prelude.{string_bytes}
-use Rattle.raw_command_line.specs.Words.{takes_number, with_words}
+use Rattle.raw_command_line.specs.Arguments.{takes_number, with_words}
 use Rattle.raw_command_line.proofs.Options.{one_word, two_words, nothing_more}
-use Rattle.raw_command_line.proofs.words.options_of.Goals as goal
+use Rattle.raw_command_line.proofs.arguments.options_of.Goals as goal
 
 pub returns-in_err-said : goal.returns-in_err-said
 returns-in_err-said c =
