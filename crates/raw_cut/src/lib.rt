@@ -3,6 +3,15 @@
 //! A cut is a state of a run in which the number of a node stands for each word; `raw_rows` says what a proof from one
 //! consists of, and what it shows. Here such a proof is looked for, in a run with terms until its control recurs, and
 //! checked, in one run for each part of it. What is said of a set stands on the check alone.
+//!
+//! For how many rows a set is proved at most (`raw_tests/src/cut.rt`):
+//!
+//! ```
+//! match prove_live(alloc, &mut set, &stream)? {
+//!     Some(Extent { most, .. }) => Ok(Some(most)),
+//!     None => Ok(None),
+//! }
+//! ```
 #![tactic(auto)]
 
 mod arriving;

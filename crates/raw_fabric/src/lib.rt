@@ -1,5 +1,12 @@
 //! The shared fabric: the wires of a grid as words of one table, at which any number of passes in any threads take
 //! steps. Each step takes effect with one store.
+//!
+//! The turn of a processor, by the pass that holds it (`raw_tests/src/fabric.rt`):
+//!
+//! ```
+//! let worker = p % fabric.workers();
+//! Some(fabric.try_fire(&mut passes[worker as usize], ProcId(p)))
+//! ```
 #![tactic(auto)]
 
 mod answer;

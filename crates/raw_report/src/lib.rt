@@ -1,5 +1,13 @@
 //! The report of a machine at rest, line by line, and histories: lists of steps as text. The first lines of a report,
 //! which say how the machine came to rest, can be put alone.
+//!
+//! The report of a machine at rest, in memory (`raw_tests/src/orders.rt`):
+//!
+//! ```
+//! assert!(rt; machine.quiet());
+//! let mut out = MemSink::new(alloc, 100_000, Vec::new(alloc))?;
+//! write_report(machine, outcome(machine), &mut out)?;
+//! ```
 #![tactic(auto)]
 
 mod history;

@@ -1,4 +1,13 @@
 //! The serial machine: it runs the grid of a program set, one processor after another.
+//!
+//! A machine, run to its rest (`raw_tests/src/orders.rt`):
+//!
+//! ```
+//! let set = set_of(alloc, text)?;
+//! let mut machine = Machine::open(alloc, &set)?;
+//! machine.run();
+//! let run = report_of(rt, alloc, &machine)?;
+//! ```
 #![tactic(auto)]
 
 mod asking;

@@ -1,4 +1,15 @@
 //! The text of a program set: what its lines mean, read into the set, and the listing of a set.
+//!
+//! The set of a text (`raw_tests/src/fabric.rt`):
+//!
+//! ```
+//! let text = read_text(alloc, bytes)?;
+//! let lines = text.line_count();
+//! match read_set(alloc, &text, lines) {
+//!     Ok(set) => Ok(set),
+//!     Err(_) => Err("no set".into()),
+//! }
+//! ```
 #![tactic(auto)]
 
 mod builder;

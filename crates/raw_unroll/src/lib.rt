@@ -1,6 +1,17 @@
 //! Streams, unrolled: a stream as the ordinary flow that it is. And what its sinks are due, row by row, without that flow.
 //!
 //! Which flow that is, `specs/Unrolled.antt` of `raw_stream` says.
+//!
+//! The set of a stream, with the words of its sources (`raw_tests/src/stream.rt`):
+//!
+//! ```
+//! match compile_stream(alloc, &input.stream, &input.words) {
+//!     Ok(Some(set)) => Ok(received(alloc, &set)?.as_slice() == words),
+//!     Ok(None) => Ok(false),
+//!     Err(FlowRefusal::TooMany) => Ok(false),
+//!     Err(FlowRefusal::Memory) => Err("no memory")?,
+//! }
+//! ```
 #![tactic(auto)]
 
 mod compiling;
