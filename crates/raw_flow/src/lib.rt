@@ -2,6 +2,15 @@
 //!
 //! A flow is a list of nodes, each an input, a constant, or an operation on the values of earlier nodes. The value
 //! of each node is made at a tile, its home, and is carried to other tiles along the trees of the route planner.
+//!
+//! The sum of two inputs and its square, which is 49 of 3 and 4 (`raw_tests/src/flow.rt`):
+//!
+//! ```
+//! let nodes = SUM_AND_SQUARE.to_vec(alloc)?;
+//! let flow = Flow::new(2, 1, nodes, [3].to_vec(alloc)?).ok_or("no flow")?;
+//! assert!(rt; flow.input_count() == 2);
+//! assert!(rt; direct(alloc, &flow, &[3, 4])?.as_slice() == [49].as_slice());
+//! ```
 #![tactic(auto)]
 
 mod compiling;
