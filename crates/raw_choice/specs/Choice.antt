@@ -13,9 +13,9 @@ use Rattle.raw_steady.specs.Steady.{KeepsCycles}
 abbrev pub IsMade : Dataflow → List ℕ → Type 0
 IsMade flow inputs = AreShort (compiled flow inputs).tiles
 
--- A set that has the grid, the ports and the words of the compiled set of a flow with these inputs, whatever its programs are; that meets
--- the flow, for all words; and that has no more cycles than the compiled set, where that is made. Where it is not the compiled set, it has
--- these cycles with any words.
+-- A set that has the grid, the ports and the words of the compiled set of a flow with these inputs, whatever its
+-- programs are. It meets the flow, for all words, and has no more cycles than the compiled set, where that is made.
+-- Where it is not the compiled set, it has these cycles with any words.
 pub record IsChoice (flow : Dataflow) (inputs : List ℕ) (set : ProgramSet) : Type 0 where
   pub valid : IsSet set
   pub same : IsSetFor flow inputs set

@@ -52,8 +52,9 @@ abbrev pub Took : Bool → Running → Running → ℕ → List ℕ → List ℕ
 Took true old new p before after = (turn : Turn) × IsTurnOf old new p turn × AreSent turn old p before after
 Took false old new p before after = (new ≡ old) × (after ≡ before)
 
--- From one machine to the other there was one cycle: whatever turns the first has taken, the other has taken these and
--- those of a cycle; and where the first numbers are how many values they sent on each wire, the second ones are so of all.
+-- From one machine to the other there was one cycle: whatever turns the first has taken, the other has taken these
+-- and those of a cycle. Where the first numbers are how many values were sent on each wire, the second ones are so
+-- after it.
 abbrev pub IsCycle : Running → Running → List ℕ → List ℕ → Type 0
 IsCycle old new before after =
     (turns : List ℕ) → HasTaken old.set old turns → HaveSent old.set turns before →

@@ -15,8 +15,9 @@ use Rattle.raw_lockstep.specs.Lockstep.{IsSchedule, first_rounds, IsReordered, D
 use Rattle.raw_lockstep.specs.Stalls.{touched_by, paid_by}
 use Rattle.raw_clock.specs.Clock.{clocked, machine_at, first_clock, steps_of, clock_steps, clock, turn_in, is_fired, is_stalled, is_stop, is_starved, is_blocked, fired, IsOver, spent, waited}
 
--- The clock after k cycles, and one cycle more: the steps are lawful and lead to its state, tiles have touched what they
--- touch in them; in the next cycle those step whose turn is a step, and those pay whose turn is a stall turn.
+-- The clock after k cycles, and one cycle more. The steps are lawful and lead to its state, and tiles have touched
+-- what they touch in them. In the next cycle those step whose turn is a step, and those pay whose turn is a stall
+-- turn.
 pub record IsClockAt (set : ProgramSet) (k : ℕ) : Type 0 where
   pub lawful : IsLawful set (clock_steps set k)
   pub there : end set (clock_steps set k) ≡ machine_at (clock set k)
@@ -56,8 +57,9 @@ line_sum Switch set n p =
 line_sum Source set n p = spent set n p is_fired + spent set n p (is_blocked set p) + spent set n p is_stop
 line_sum Sink set n p = spent set n p is_fired + spent set n p (is_starved set p) + spent set n p is_stop
 
--- each of the first n cycles is spent once by processor p, as a step exactly where it takes one; and where it waits, it does
--- so for one of its inputs or one of its outputs; only a tile pays stall turns, and the numbers of its line add up to n
+-- Each of the first n cycles is spent once by processor p, as a step exactly where it takes one. Where it waits, it
+-- does so for one of its inputs or one of its outputs. Only a tile pays stall turns, and the numbers of its line
+-- add up to n.
 pub record IsSpent (set : ProgramSet) (n p : ℕ) : Type 0 where
   pub once : spent set n p is_fired + spent set n p is_stalled + spent set n p is_stop
       + spent set n p (is_starved set p) + spent set n p (is_blocked set p) ≡ n

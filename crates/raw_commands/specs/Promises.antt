@@ -70,29 +70,32 @@ pub record Promises (call : Call) : Type 0 where
   pub plan : Written reading.Plan (IsSetOutput form.Plan listing) call
   -- After `flow` and status 0, out has the listing of the compiled set of the flow that the text means.
   pub flow : Written (reading.Flow Compiled) (IsSetOutput form.Flow listing) call
-  -- After `flow --schedule` and status 0, out has the listing of a set for the flow or the stream that the text means, which meets the
-  -- flow, or that which the stream is when it is unrolled: with any words in its sources, each lawful list of its steps that comes to rest
-  -- ends done, and each sink has the values of its outs for these words. It takes no more cycles than the compiled set, where that is made.
-  -- A set for a flow that is not the compiled set takes its cycles with any words.
+  -- After `flow --schedule` and status 0, out has the listing of a set for the flow or the stream that the text
+  -- means, which meets the flow, or that which the stream is when it is unrolled. With any words in its sources,
+  -- each lawful list of its steps that comes to rest ends done, and each sink has the values of its outs for these
+  -- words. It takes no more cycles than the compiled set, where that is made. A set for a flow that is not the
+  -- compiled set takes its cycles with any words.
   pub schedule : Written (reading.Flow Scheduled) IsScheduleOutput call
-  -- After `flow --schedule --endless` and status 0, out has the listing of a set with the grid and the ports of the stream that the text
-  -- means, without words, which meets the stream row by row: for all numbers of rows from one number on up to more than twice as many, fed
-  -- with so many rows of any words, some list of its steps comes to rest, and each that does leaves in each sink what it is due of all
-  -- these rows, in order, but for some last words, no more than the least of these numbers. After status 12 out says that none was proved.
+  -- After `flow --schedule --endless` and status 0, out has the listing of a set with the grid and the ports of the
+  -- stream that the text means, without words, which meets the stream row by row. So it is for all numbers of rows
+  -- from one number on up to more than twice as many. Fed with so many rows of any words, some list of its steps
+  -- comes to rest. Each that does leaves in each sink what it is due of all these rows, in order, but for some last
+  -- words, no more than the least of these numbers. After status 12 out says that none was proved.
   pub endless : Written (reading.Flow Endless) IsEndlessOutput call
   -- After `check` and status 0 or 11, out has the line that says whether the steps behind the set are lawful, exactly.
   pub check : Written reading.Check IsCheckOutput call
   -- After `debug` and status 0, out has what the script shows.
   pub debug : Written reading.Debug IsDebugOutput call
-  -- After `prove` and status 0, 12 or 13, out has what is said of the claim behind the set, exactly. Where it is proved, the set meets
-  -- it: with any words in its sources, each lawful list of its steps that comes to rest ends done, and at the places of the claim, or
-  -- where it names none at the sinks, are the values of its outs for these words; and its clock has as many cycles as the line tells.
-  -- Where words refute it, each lawful list of the set with these words that comes to rest ends as is told. They are the set's own where
-  -- these refute it.
+  -- After `prove` and status 0, 12 or 13, out has what is said of the claim behind the set, exactly. Where it is
+  -- proved, the set meets it, and its clock has as many cycles as the line tells. With any words in its sources,
+  -- each lawful list of its steps that comes to rest ends done. At the places of the claim, or where it names none
+  -- at the sinks, are then the values of its outs for these words. Where words refute it, each lawful list of the
+  -- set with these words that comes to rest ends as is told. They are the set's own where these refute it.
   pub prove : Written reading.Prove IsProveOutput call
-  -- After `prove --live` and status 0, out has for which numbers of rows the set is proved against the stream behind it: fed with so many
-  -- rows of any words, some list of its steps comes to rest, and each that does leaves in each sink what it is due of all these rows, in
-  -- order, but for the last words, as many as the line tells of the sink. After status 12 out says that no proof was found.
+  -- After `prove --live` and status 0, out has for which numbers of rows the set is proved against the stream
+  -- behind it. Fed with so many rows of any words, some list of its steps comes to rest. Each that does leaves in
+  -- each sink what it is due of all these rows, in order, but for the last words, as many as the line tells of the
+  -- sink. After status 12 out says that no proof was found.
   pub prove_live : Written reading.ProveLive IsLiveOutput call
   -- A script that goes past the end is refused at the line that does, once what the lines before it show was put.
   pub past : PastExactly call

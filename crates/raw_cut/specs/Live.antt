@@ -10,8 +10,9 @@ use Rattle.raw_stream.specs.Streams.{Stream, due_at}
 use Rattle.raw_stream.specs.Unrolled.{width}
 use Rattle.raw_rows.specs.Kernels.{LiveProof, AreRows, IsMetBut, kernels_in}
 
--- The set, fed with any rows, so many at least and so many at most: some list of its steps comes to rest, and each that does leaves in each sink
--- what it is due of them, in order, but for the last words, at most so many as `lacks` has at the number of its port.
+-- The set is fed with any rows, so many at least and so many at most. Some list of its steps comes to rest, and
+-- each that does leaves in each sink what it is due of them, in order, but for the last words. Of these there are
+-- at most so many as `lacks` has at the number of its port.
 abbrev pub IsMetFrom : ProgramSet → Stream → ℕ → ℕ → List ℕ → Type 0
 IsMetFrom set s least most lacks = (rows : List (List ℕ)) → least ≤ length rows → length rows ≤ most → AreRows s rows → IsMetBut set s lacks rows
 

@@ -45,7 +45,7 @@ pub fn law_same_stops()
     ensures nowhere { (set : ProgramSet) (moment p : ℕ) (aim : Aim) → stop_after set moment p aim ≡ None →
         (k : ℕ) → moment < k → k ≤ length (serial set) → is_stop set p aim (k - 1) ≡ false }
     // The step at which it stops is, in every lawful list that goes so far, the next one of its processor that does what is
-    // aimed at: that leaves it at a pc, makes a word of its memory what it was not, or sends a value on a wire.
+    // aimed at: leaves it at a pc, makes a word of its memory what it was not, or sends a value on a wire.
     ensures same { (set : ProgramSet) (moment p : ℕ) (aim : Aim) (n : ℕ) (steps : List ℕ) → IsSet set → IsLawful set steps →
         stop_after set moment p aim ≡ Some n → count_at set p n ≤ count_of p steps →
         IsNext (λ k. did set steps p aim k ≡ true) (count_at set p moment) (count_at set p n) }
@@ -59,7 +59,7 @@ pub fn law_same_stops()
     // and nowhere where none did.
     ensures none_before { (set : ProgramSet) (moment p : ℕ) (aim : Aim) → last_up_to set moment p aim ≡ None →
         (k : ℕ) → 0 < k → k ≤ moment → is_stop set p aim (k - 1) ≡ false }
-    // In every lawful list that goes so far it is the latest one of its processor that does what is aimed at; from right after
+    // In every lawful list that goes so far it is the latest one of its processor that does what is aimed at. From right after
     // the k-th step of that processor, or from the start, it hangs on no order of the others.
     ensures same_latest { (set : ProgramSet) (moment p : ℕ) (aim : Aim) (n : ℕ) (steps : List ℕ) → IsSet set → IsLawful set steps →
         last_up_to set moment p aim ≡ Some n → count_at set p moment ≤ count_of p steps →

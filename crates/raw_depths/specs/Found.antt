@@ -68,8 +68,9 @@ pub record IsFoundTo (set : ProgramSet) (n : ℕ) (found : Depths) : Type 0 wher
   pub cycle : option_map (λ (deadlock : ValueDeadlock). deadlock.depth) found.deadlock ≡ find (λ d. waits_for_values (at_depth set d) (rest_at set d)) (range_with_len 1 n)
   pub waits : ForSome found.deadlock (λ deadlock. deadlock.waits.items ≡ cycle_lines (at_depth set deadlock.depth) (rest_at set deadlock.depth))
 
--- What its cycles say of a set: they are those of its clock at each depth that it may have; and where none waits for room once it is
--- at rest at one of these, it has no more cycles at any greater depth, also beyond those that it may have.
+-- What its cycles say of a set: they are those of its clock at each depth that it may have. Where none waits for
+-- room once it is at rest at one of these, it has no more cycles at any greater depth, also beyond those that it
+-- may have.
 pub record AreItsCycles (set : ProgramSet) : Type 0 where
   pub counted : (d : ℕ) → 1 ≤ d → d ≤ 7 → HasCycles (at_depth set d) (cycles_at set d)
   pub no_longer : (d e m : ℕ) → 1 ≤ d → d ≤ 7 → d ≤ e → NoneBlocked (at_depth set d) (clock (at_depth set d) (cycles_at set d)) →

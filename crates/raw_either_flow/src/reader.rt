@@ -48,9 +48,9 @@ fn read_rows(alloc: Global, text: &Text) -> Result<PlacedInput, SetRefusal>
     })
 }
 
-/// The flow that the lines of a text mean, with its ports and words: of a stream the flow that it is when it is unrolled,
-/// with a source for each of its sources and a sink for each of its sinks, and of a plain flow that with one of each, at
-/// the west of tile 0.
+/// The flow that the lines of a text mean, with its ports and words. Of a stream it is the flow that the stream is
+/// when it is unrolled, with a source for each of its sources and a sink for each of its sinks. Of a plain flow it
+/// is that flow with one of each, at the west of tile 0.
 ///
 /// A refusal names the least faulty line and the first of its faults, or is want of memory. A stream that does not fit
 /// unrolled is `OverLimit` at the line after the last.

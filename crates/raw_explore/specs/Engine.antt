@@ -75,9 +75,9 @@ IsAlike given other = Unit {0}
 abbrev pub SomeSteps : Running → ℕ → Type 0
 SomeSteps m p = 0 < count_in (slice_get m.state.locals p)
 
--- What is known of a run of a set that is opened: a machine came to rest, and a second one has done nothing yet; the set has so
--- many cycles, of which these are the counts, comes to rest as the outcome says, and these are the turns and the sends of the
--- whole run, where they are told.
+-- What is known of a run of a set that is opened: a machine came to rest, and a second one has done nothing yet.
+-- The set has so many cycles, of which these are the counts, and comes to rest as the outcome says. These are the
+-- turns and the sends of the whole run, where they are told.
 pub record IsOpened (set : ProgramSet) (machine other : Running) (answer : Outcome) (ran : Cycles) (whole : Option Whole) : Type 0 where
   pub valid : IsSet set
   pub machine_set : machine.set ≡ set

@@ -124,9 +124,9 @@ fn put_whole<K: Sink>(
     }
 }
 
-/// Writes the trace of a run that is opened: its text, the lines of the whole run where they are told, the state
-/// before cycle `from`, at most `most` cycles from there on, the state at rest where the last one is among them, and what is
-/// counted of the whole run. It takes no memory, and steps the set to its rest.
+/// Writes the trace of a run that is opened: its text, the lines of the whole run where they are told, and the
+/// state before cycle `from`. Then come at most `most` cycles from there on, the state at rest where the last one
+/// is among them, and what is counted of the whole run. It takes no memory, and steps the set to its rest.
 ///
 /// After `Failed` a front of the text is appended. The run is used up either way.
 pub fn write_trace<K: Sink>(

@@ -10,9 +10,9 @@ use Rattle.raw_fabric_rule.specs.Word.{status_at}
 use Rattle.raw_fabric_rule.specs.Rule.{WordsStand, HasStood}
 use Rattle.raw_fabric_rule.specs.Plays.{HasHold, fired, values_of}
 
--- The store of this word as the status word of p, by a seat with this view, is one step of p: whatever other views there are,
--- and whatever words and state stand with them, p is enabled in that state, and after the store the words and the views stand
--- for the state after the step.
+-- The store of this word as the status word of p, by a seat with this view, is one step of p. Whatever other views
+-- there are, and whatever words and state stand with them: p is enabled in that state, and after the store the
+-- words and the views stand for the state after the step.
 abbrev pub IsStepOf : About → ℕ → ℕ → View → Type 0
 IsStepOf about p word v =
     (words : List ℕ) (views : List View) (s : MachineState) (seat : ℕ) → WordsStand about words views s → get_elem? views seat ≡ some v →

@@ -131,8 +131,9 @@ whole set_form.Image = form.Image
 whole set_form.Plan = form.Plan
 whole set_form.Flow = form.Flow
 
--- an input means a set: its lines mean the set, or it is an image of the set, in version 1 or 2, or it is the text of a plan
--- that plans the set, or of a flow, plain or of rows, that is compiled to it, or it says the set and steps, or the set and a script or a claim
+-- An input means a set where its lines mean the set, or it is an image of the set, in version 1 or 2. It also means
+-- one where it is the text of a plan that plans the set, or of a flow, plain or of rows, that is compiled to it,
+-- and where it says the set and steps, or the set and a script or a claim.
 abbrev pub Means : InputForm → List ℕ → ProgramSet → Type 0
 Means form.Text input set = Meaning input set
 Means form.Image input set = Image input set

@@ -145,9 +145,9 @@ fn finish<K: Sink>(engine: Engine, answers: Answers, out: &mut K) -> Result<Endi
     }
 }
 
-/// Reads the lines behind `live` from a source that may still be open, feeds each word to the machine when it comes,
-/// runs the machine to rest, and writes what its sinks then have more, each word as a line; at last how the machine
-/// came to rest.
+/// Reads the lines behind `live` from a source that may still be open, and feeds each word to the machine when it
+/// comes. It runs the machine to rest and writes what its sinks then have more, each word as a line, and at last
+/// how the machine came to rest.
 ///
 /// The reader goes on to the end of its input also where the sink failed. Want of memory is answered before a fault of the
 /// input, and that before a failure of the sink.

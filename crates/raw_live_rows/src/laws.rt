@@ -6,9 +6,9 @@ use raw_live_text::law_heads;
 use raw_model::law_fits;
 use raw_set_text::law_one_answer;
 
-/// A call of `rawlive` that fed a set to its end tells of each sink what it is due of the rows that were put, in order, but
-/// for its last words: where the set is proved for so many rows, as by `prove --live`, and the input says the set fed with
-/// these rows.
+/// A call of `rawlive` that fed a set to its end tells of each sink what it is due of the rows that were put, in
+/// order, but for its last words. So it is where the set is proved for so many rows, as by `prove --live`, and the
+/// input says the set fed with these rows.
 pub fn law_rows_told()
     ensures { EachRowIsTold }
 {

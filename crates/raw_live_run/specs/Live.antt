@@ -11,8 +11,9 @@ use Rattle.raw_live_text.specs.Heads.{head_of}
 use Rattle.raw_live.specs.Engine.{with_items}
 use Rattle.raw_live.specs.Judging.{IsIntakeOf}
 
--- Lines say a set and words: the first of them that is the word `live` alone stands behind lines that mean a set, no line before it is
--- faulty as a line of text, and those behind it put words for the sources of the set, up to the first fault.
+-- Lines say a set and words. The first of them that is the word `live` alone stands behind lines that mean a set,
+-- and no line before it is faulty as a line of text. Those behind it put words for the sources of the set, up to
+-- the first fault.
 pub record SaysWords (lines : List (List ℕ)) : Type 0 where
   pub place : ℕ
   pub mark : head_of 1 lines ≡ Mark (place + 1)

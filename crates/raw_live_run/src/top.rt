@@ -166,9 +166,9 @@ fn serve<R: Threads + Clock + Wait + Sync, S: Source + Send, K: Sink + Send, G: 
     }
 }
 
-/// Does all that the program does: reads a set from `source`, feeds it the words of the lines behind `live` as they come,
-/// and writes what its sinks receive to `out`, each word when it is there, and in the end how the grid came to rest.
-/// On a failure `err` has one line. It answers the status.
+/// Does all that the program does. It reads a set from `source` and feeds it the words of the lines behind `live`
+/// as they come. It writes what its sinks receive to `out`, each word when it is there, and in the end how the grid
+/// came to rest. On a failure `err` has one line. It answers the status.
 ///
 /// The reader, the grid and the writer run beside each other, in threads where these can be made. What is said here is
 /// said of a call that returns.

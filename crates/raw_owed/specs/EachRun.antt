@@ -20,9 +20,9 @@ pub record AreAlike (set : ProgramSet) (others steps : List ℕ) : Type 0 where
   pub pictures : picture set others ≡ picture set steps
   pub passed : (w : ℕ) → passed_on set (start set) others w ≡ passed_on set (start set) steps w
 
--- a list of steps goes no further than another: no processor has more steps in it; the k-th step of each, at k - 1,
--- takes, sends and touches the same in both, and the local state right after it is the same; and what passes on
--- each wire begins what passes there in the other
+-- A list of steps goes no further than another: no processor has more steps in it. The k-th step of each, at k - 1,
+-- takes, sends and touches the same in both, and the local state right after it is the same. What passes on each
+-- wire begins what passes there in the other.
 pub record GoesNoFurther (set : ProgramSet) (others steps : List ℕ) : Type 0 where
   pub at_most_as_often : (p : ℕ) → count_of p others ≤ count_of p steps
   pub same_locals : (p k : ℕ) → k ≤ count_of p others

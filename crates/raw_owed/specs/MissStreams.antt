@@ -22,9 +22,9 @@ pub record AreEqualButTurns (topo : Topology) (first second : List ℕ) : Type 0
   pub first_text : first ≡ front ++ lines_of_stalls topo missed first_turns
   pub second_text : second ≡ front ++ lines_of_stalls topo missed second_turns
 
--- a list of steps from the start does the same in two sets: it is lawful in both or in neither, comes to rest in
--- both or in neither, ends in one state, and each step takes, sends and touches the same; and its two reports are
--- equal but for the turns
+-- A list of steps from the start does the same in two sets: it is lawful in both or in neither, and comes to rest
+-- in both or in neither. It ends in one state, and each step takes, sends and touches the same. Its two reports are
+-- equal but for the turns.
 pub record DoesTheSame (a b : ProgramSet) (steps : List ℕ) : Type 0 where
   pub runs : RunsTheSame a b steps
   pub reports : AreEqualButTurns a.topo (report a steps) (report b steps)

@@ -138,8 +138,9 @@ pub record IsCyclesOutput (options : CyclesOptions) (input bytes : List ℕ) (en
   pub written : bytes ≡ counted_text options.lost set cycles
   pub ended : ending ≡ ending_of (outcome set (end set (clock_steps set cycles)))
 
--- `path`: the text of the path of the set that the input means, at the number of its cycles; where it has a cycle, the path is a chain
--- of turns, one of each cycle, each of which needs the one before it, and no schedule has its last turn sooner
+-- `path`: the text of the path of the set that the input means, at the number of its cycles. Where it has a cycle,
+-- the path is a chain of turns, one of each cycle, each of which needs the one before it. No schedule has its last
+-- turn sooner.
 pub record IsPathOutput (form : SetForm) (input bytes : List ℕ) (ending : Ending) : Type 0 where
   pub set : ProgramSet
   pub meaning : Means (whole form) input set
@@ -247,9 +248,10 @@ pub record IsTextOutput (text : FixedText) (output : List ℕ) (ending : Ending)
   pub written : output ≡ fixed_text_of text
   pub ended : ending ≡ Done
 
--- a command's output for an input, and how it ended: `asm` owes the image, in version 2, of the set that its text means, and
--- `list` the listing of the set whose image it reads, `plan` of the planned set, and `flow` of the compiled one or of one that is scheduled,
--- for the rows of its text or for rows without end; a command that reads nothing has the empty input
+-- A command's output for an input, and how it ended. `asm` owes the image, in version 2, of the set that its text
+-- means, and `list` the listing of the set whose image it reads. `plan` owes that of the planned set, and `flow`
+-- that of the compiled one or of one that is scheduled, for the rows of its text or for rows without end. A command
+-- that reads nothing has the empty input.
 abbrev pub Owes : Command → List ℕ → List ℕ → Ending → Type 0
 Owes (Alone (Fixed text)) input output ending = IsTextOutput text output ending
 Owes (Alone (Work n workers)) input output ending = IsWorkOutput n output ending
@@ -282,9 +284,9 @@ GoesPast _ input output line = ⊥
 abbrev pub IsDue : Command → List ℕ → List ℕ → Type 0
 IsDue command input output = ((ending : Ending) × Owes command input output ending) ⊎ ((line : ℕ) × GoesPast command input output line)
 
--- a command refuses an input that has a fault, and tells it: a text at the line of its least fault, an image at the offset
--- of its first; `flow --schedule` may also refuse a flow or a stream whose compiled set is not made, and with `--endless` it refuses each text
--- that has a fault as that of a stream
+-- A command refuses an input that has a fault, and tells it: a text at the line of its least fault, an image at the
+-- offset of its first. `flow --schedule` may also refuse a flow or a stream whose compiled set is not made. With
+-- `--endless` it refuses each text that has a fault as that of a stream.
 abbrev pub Refuses : Command → List ℕ → Refusal → Type 0
 Refuses (Alone command) input refusal = ⊥
 Refuses (Reads (reading.Flow Endless)) input refusal = HasStreamFault input refusal

@@ -138,9 +138,9 @@ fn judge(
     }
 }
 
-/// Runs a set once with terms in the place of the words of its sources, in the serial order, and says what that shows of
-/// a claim: a flow whose k-th input stands for the k-th word of all sources, those of the first port first, and whose
-/// outs are claimed of the words at these places.
+/// Runs a set once with terms in the place of the words of its sources, in the serial order, and says what that
+/// shows of a claim. A claim is a flow whose k-th input stands for the k-th word of all sources, those of the first
+/// port first, and whose outs are claimed of the words at these places.
 ///
 /// `Proved` says that the set meets the claim (`MeetsAt`): with any words in its sources, as many as they have, each run
 /// of it, in whatever order, ends done with the values of the outs at the places, and with as many words at each sink as

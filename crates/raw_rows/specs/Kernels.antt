@@ -198,8 +198,8 @@ pub record LiveProof : Type 0 where
   pub last_limit : ℕ
   pub lacks : List ℕ
 
--- The steps of a proof do what they are for: those of the opening lead from the start to the cut, those of the kernel from the cut to itself
--- over its rows, and for each number of rows below these some lead from the cut to rest.
+-- The steps of a proof do what they are for. Those of the opening lead from the start to the cut, and those of the
+-- kernel from the cut to itself over its rows. For each number of rows below these some lead from the cut to rest.
 pub record IsLiveProof (set : ProgramSet) (s : Stream) (w : LiveProof) : Type 0 where
   pub constants : AreWordNodes w.cut.at.nodes
   pub opens : Leads set s w.first_limit (known s) (start_cut set) w.opening w.first_rows w.cut

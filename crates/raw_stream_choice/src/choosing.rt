@@ -101,8 +101,9 @@ fn sooner(alloc: Global, found: Option<Set>, compiled: Set) -> Result<Set, Alloc
     Ok(compiled)
 }
 
-/// A set for a stream whose sources have these words: the one that the search finds, where it is proved that this set
-/// meets the stream for all words, and else the compiled set, where that is made; of both the one that takes fewer cycles.
+/// A set for a stream whose sources have these words. It is the one that the search finds, where it is proved that
+/// this set meets the stream for all words, or the compiled set, where that is made: of both the one that takes
+/// fewer cycles.
 ///
 /// The only error is want of memory.
 pub fn choose_for_stream(alloc: Global, input: &StreamInput) -> Result<Option<Set>, AllocError>

@@ -203,8 +203,9 @@ fn found_on(alloc: Global, stream: &StreamFlow, tiles: usize) -> Result<Option<S
     }
 }
 
-/// A set for a stream that takes rows as long as it is fed with them: what the search finds for its grid, or else on one
-/// tile, where it is proved that the set meets the stream for all words, whatever the number of rows that the stream has.
+/// A set for a stream that takes rows as long as it is fed with them. It is what the search finds for its grid, or
+/// else on one tile, where it is proved that the set meets the stream for all words, whatever the number of rows
+/// that the stream has.
 ///
 /// The only error is want of memory.
 pub fn choose_endless(alloc: Global, stream: &StreamFlow) -> Result<Option<Set>, AllocError>

@@ -221,9 +221,9 @@ fn on_part(ins: &TileIns, a: Option<u32>, b: Option<u32>, cell: Option<u32>) -> 
     }
 }
 
-/// What the row of an instruction does, where the instruction that follows has the number `next`, and `a` and `b` are
-/// the words of the terms at rs and rt, and `cell` is that of the memory word at the address of a load or a store,
-/// where these are words.
+/// What the row of an instruction does, where the instruction that follows has the number `next`. Where these are
+/// words, `a` and `b` are those of the terms at rs and rt, and `cell` is that of the memory word at the address of
+/// a load or a store.
 ///
 /// None where the row wants a word and its term is none. Branches, `jr` and `jalr` want the words that they look at,
 /// also where both of a branch are the same term; `clz` and `popc`, which are no operations of terms, want theirs; a

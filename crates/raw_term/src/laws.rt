@@ -8,9 +8,9 @@ use raw_flow::{law_compiled, law_flow};
 use raw_model::{law_bound, law_fits, law_same_rest, law_serial};
 use raw_tile_isa::law_words;
 
-/// A set of which a claim is proved, by its serial run with terms, meets it: with any words in its sources, as many as
-/// they have, it is a set, some lawful list of its steps comes to rest, and each that does ends done, with the values
-/// of the outs of the claim at its places, and at each sink as many words as are claimed of it.
+/// A set of which a claim is proved, by its serial run with terms, meets it. With any words in its sources, as many
+/// as they have, it is a set, and some lawful list of its steps comes to rest. Each that does ends done, with the
+/// values of the outs of the claim at its places, and at each sink as many words as are claimed of it.
 pub fn law_proved()
     ensures { EachProvedIsMet }
 {
