@@ -31,7 +31,10 @@ impl Crossing {
 
     // Whether an output has a route.
     fn is_used(&self, output: End) -> bool {
-        code(&self.routes, usize::from(output.index())) != 0
+        match self.routes.get(usize::from(output.index())) {
+            Some(route) => *route != 0,
+            None => false,
+        }
     }
 
     // An output sends what comes from a direction.

@@ -9,9 +9,10 @@ ghost use Rattle.raw_path.specs.Path.{goes_in, waited_for, stretches, stretch_of
 ghost use Rattle.raw_path.specs.Known.{Leads, IsEnd, AreHops, AreKnown, IsReached, IsTold};
 
 use crate::hops::{End, Hop};
-use crate::seen::{Seen, goes};
+use crate::seen::Seen;
 use crate::stretch::{Stretch, WaitedFor, waited_for};
 use crate::told::Told;
+use raw_clock::goes;
 use raw_grid::Topo;
 use raw_model::Set;
 use std::alloc::{AllocError, Global};
