@@ -21,8 +21,8 @@ use Rattle.raw_inputs.specs.declared.form.InputForm.{InputForm}
 use Rattle.raw_inputs.specs.declared.form.InputForm.TheVariants as form
 use Rattle.raw_command_line.specs.declared.arguments.SetForm.{SetForm}
 use Rattle.raw_command_line.specs.declared.arguments.RunOutput.TheVariants.{History}
-use Rattle.raw_shell.specs.declared.ending.Ending.{Ending}
-use Rattle.raw_shell.specs.declared.ending.Ending.TheVariants.{Done}
+use Rattle.raw_shell.specs.declared.ending.CommandEnding.{CommandEnding}
+use Rattle.raw_shell.specs.declared.ending.CommandEnding.TheVariants.{Done}
 use Rattle.raw_shell.specs.Seen.{limit}
 use Rattle.raw_inputs.specs.Inputs.{whole, lines_behind, SaysSteps, IsOneInput}
 use Rattle.raw_owed.specs.Owed.{IsRunOutput, IsCheckOutput}
@@ -125,7 +125,7 @@ module _ (one : (form : InputForm) (input : List ℕ) → IsOneInput form input)
         subst (λ (q : ProgramSet × ℕ). entries_of (proc_count q.0.topo) (lines_behind text q.1) ≡ Some also.steps) (λ i. (set_is i, place_is i)) also.entries in
         (set_is, cc (here, says.entries))
 
-    finds_lawful : (output : List ℕ) (ending : Ending) → IsCheckOutput text output ending → (output ≡ check_line says.steps Lawful) × (ending ≡ Done)
+    finds_lawful : (output : List ℕ) (ending : CommandEnding) → IsCheckOutput text output ending → (output ≡ check_line says.steps Lawful) × (ending ≡ Done)
     finds_lawful output ending check =
         let same = same_said check.set check.meaning in
         let all : IsLawful check.set check.meaning.steps =
@@ -135,7 +135,7 @@ module _ (one : (form : InputForm) (input : List ℕ) → IsOneInput form input)
           check.ended ∙ ap check_ending answer_is,
         )
 
-  pub history_is_lawful : (form : SetForm) (input text : List ℕ) (ending : Ending) → IsRunOutput History form input text ending → length text ≤ limit → HistoryIsLawful form input text
+  pub history_is_lawful : (form : SetForm) (input text : List ℕ) (ending : CommandEnding) → IsRunOutput History form input text ending → length text ≤ limit → HistoryIsLawful form input text
   unfolding says
   history_is_lawful form input text ending history short =
       let valid : IsSet history.set = (one (whole form) input).lawful history.set history.meaning in

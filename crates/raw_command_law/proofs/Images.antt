@@ -10,14 +10,14 @@ use Rattle.raw_command_line.specs.declared.arguments.SetForm.TheVariants as set_
 use Rattle.raw_command_line.specs.declared.arguments.TraceOptions.{TraceOptions}
 use Rattle.raw_inputs.specs.declared.form.InputForm.{InputForm}
 use Rattle.raw_inputs.specs.declared.form.InputForm.TheVariants as form
-use Rattle.raw_shell.specs.declared.ending.Ending.{Ending}
+use Rattle.raw_shell.specs.declared.ending.CommandEnding.{CommandEnding}
 use Rattle.raw_shell.specs.Seen.{limit}
 use Rattle.raw_inputs.specs.Inputs.{whole, Means, IsOneInput}
 use Rattle.raw_owed.specs.Owed.{IsRunOutput, IsCyclesOutput, IsTraceOutput, IsTracedWith, IsDepthsOutput, IsSteadyOutput, IsSetOutput}
 use Rattle.raw_command_law.specs.Images.{GivesBack, StandsFor}
 
 -- the output of one input is that of another that means the same set
-cycles_of : {a b : SetForm} {lost : Bool} {input other written : List ℕ} {ending : Ending} (run : IsCyclesOutput (record { form = a; lost = lost }) input written ending)
+cycles_of : {a b : SetForm} {lost : Bool} {input other written : List ℕ} {ending : CommandEnding} (run : IsCyclesOutput (record { form = a; lost = lost }) input written ending)
     → Means (whole b) other run.set → IsCyclesOutput (record { form = b; lost = lost }) other written ending
 cycles_of run means = record {
   set = run.set;
@@ -31,7 +31,7 @@ cycles_of run means = record {
   ended = run.ended;
 }
 
-trace_of : {a b : SetForm} {input other written : List ℕ} {ending : Ending} (sources : ProgramSet → List ℕ) (options : TraceOptions)
+trace_of : {a b : SetForm} {input other written : List ℕ} {ending : CommandEnding} (sources : ProgramSet → List ℕ) (options : TraceOptions)
     (run : IsTracedWith sources (record options { form = a }) input written ending) → Means (whole b) other run.set → IsTracedWith sources (record options { form = b }) other written ending
 trace_of sources options run means = record {
   set = run.set;
@@ -43,11 +43,11 @@ trace_of sources options run means = record {
   ended = run.ended;
 }
 
-depths_of : {a b : SetForm} {input other written : List ℕ} {ending : Ending} (run : IsDepthsOutput a input written ending) → Means (whole b) other run.set
+depths_of : {a b : SetForm} {input other written : List ℕ} {ending : CommandEnding} (run : IsDepthsOutput a input written ending) → Means (whole b) other run.set
     → IsDepthsOutput b other written ending
 depths_of run means = record { set = run.set; meaning = means; cycles = run.cycles; written = run.written; ended = run.ended }
 
-steady_of : {a b : SetForm} {input other written : List ℕ} {ending : Ending} (run : IsSteadyOutput a input written ending) → Means (whole b) other run.set
+steady_of : {a b : SetForm} {input other written : List ℕ} {ending : CommandEnding} (run : IsSteadyOutput a input written ending) → Means (whole b) other run.set
     → IsSteadyOutput b other written ending
 steady_of run means = record {
   set = run.set;
@@ -58,7 +58,7 @@ steady_of run means = record {
   ended = run.ended;
 }
 
-set_of : {a b : InputForm} {bytes_of : ProgramSet → List ℕ} {input other written : List ℕ} {ending : Ending} (out : IsSetOutput a bytes_of input written ending)
+set_of : {a b : InputForm} {bytes_of : ProgramSet → List ℕ} {input other written : List ℕ} {ending : CommandEnding} (out : IsSetOutput a bytes_of input written ending)
     → Means b other out.set → IsSetOutput b bytes_of other written ending
 set_of out means = record { set = out.set; meaning = means; written = out.written; ended = out.ended }
 
@@ -68,7 +68,7 @@ module _ (one : (form : InputForm) (input : List ℕ) → IsOneInput form input)
     (image_back : (set : ProgramSet) → IsSet set → Image (image set) set)
     (image_short : (set : ProgramSet) → IsSet set → length (image set) ≤ 2 ^ 22)
     (second : (bytes : List ℕ) (set : ProgramSet) → Image bytes set → take 8 bytes ≡ codes "RAWT" ++ number 2 → bytes ≡ image set) where
-  pub gives_back : (bytes text : List ℕ) (ending : Ending) → IsSetOutput form.Image listing bytes text ending → GivesBack bytes text
+  pub gives_back : (bytes text : List ℕ) (ending : CommandEnding) → IsSetOutput form.Image listing bytes text ending → GivesBack bytes text
   gives_back bytes text ending list =
       let lawful : IsSet list.set = list.meaning.1.lawful in
       let means : Meaning text list.set = subst (λ listed. Meaning listed list.set) (sym list.written) (back list.set lawful) in
@@ -88,7 +88,7 @@ module _ (one : (form : InputForm) (input : List ℕ) → IsOneInput form input)
             };
       }
 
-  pub stands_for : (text bytes : List ℕ) (ending : Ending) → IsSetOutput form.Text image text bytes ending → StandsFor text bytes
+  pub stands_for : (text bytes : List ℕ) (ending : CommandEnding) → IsSetOutput form.Text image text bytes ending → StandsFor text bytes
   stands_for text bytes ending asm =
       let lawful : IsSet asm.set = (one form.Text text).lawful asm.set asm.meaning in
       let is_image : Image bytes asm.set = subst (λ written. Image written asm.set) (sym asm.written) (image_back asm.set lawful) in

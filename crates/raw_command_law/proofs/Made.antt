@@ -4,7 +4,7 @@ use Rattle.std.proofs.Math.Seq.{take-length}
 use Rattle.raw_model.specs.Program.{ProgramSet, IsSet}
 use Rattle.raw_model.specs.Bounds.{all_words}
 use Rattle.raw_model.specs.Rest.{IsRun, end}
-use Rattle.raw_model.specs.Outcomes.{outcome}
+use Rattle.raw_model.specs.Outcomes.{outcome, ending_of}
 use Rattle.raw_model.specs.Outcomes.Outcome.{Done as OutcomeDone}
 use Rattle.raw_report.specs.Report.{report}
 use Rattle.raw_set_text.specs.Texts.{Meaning}
@@ -32,9 +32,9 @@ use Rattle.raw_inputs.specs.declared.form.InputForm.TheVariants as form
 use Rattle.raw_command_line.specs.declared.arguments.StateOutput.TheVariants.{Report}
 use Rattle.raw_command_line.specs.declared.arguments.RunOutput.TheVariants.{State}
 use Rattle.raw_command_line.specs.declared.arguments.ReadingCommand.TheVariants.{Run}
-use Rattle.raw_shell.specs.declared.ending.Ending.{Ending}
-use Rattle.raw_shell.specs.declared.ending.Ending.TheVariants.{Done}
-use Rattle.raw_shell.specs.Answers.{ending_of}
+use Rattle.raw_shell.specs.declared.ending.CommandEnding.{CommandEnding}
+use Rattle.raw_shell.specs.declared.ending.CommandEnding.TheVariants.{Rested}
+use Rattle.raw_model.specs.declared.ending.Ending.TheVariants.{Done}
 use Rattle.raw_shell.specs.Seen.{limit}
 use Rattle.raw_owed.specs.Schedules.{is_stream_text, IsFlowSchedule, IsStreamSchedule, IsSchedule, IsScheduleOutput, IsOneFlow}
 use Rattle.raw_owed.specs.Owed.{IsRunOutput, IsSetOutput}
@@ -57,13 +57,13 @@ module _ (one : (form : InputForm) (input : List ℕ) → IsOneInput form input)
     valid = (set, means_listed set text lawful written);
   }
 
-  run_is : (set : ProgramSet) (text output : List ℕ) (ending : Ending) → IsSet set → text ≡ listing set → (run : IsRunOutput (State Report) set_form.Text text output ending) → run.set ≡ set
+  run_is : (set : ProgramSet) (text output : List ℕ) (ending : CommandEnding) → IsSet set → text ≡ listing set → (run : IsRunOutput (State Report) set_form.Text text output ending) → run.set ≡ set
   run_is set text output ending lawful written run = (one form.Text text).one_set run.set set run.meaning (means_listed set text lawful written)
 
-  ended : (set other : ProgramSet) (steps : List ℕ) (ending : Ending) → set ≡ other → ending ≡ ending_of (outcome set (end set steps)) → outcome other (end other steps) ≡ OutcomeDone → ending ≡ Done
-  ended set other steps ending same is done = is ∙ ap (λ g. ending_of (outcome g (end g steps))) same ∙ ap ending_of done
+  ended : (set other : ProgramSet) (steps : List ℕ) (ending : CommandEnding) → set ≡ other → ending ≡ Rested (ending_of (outcome set (end set steps))) → outcome other (end other steps) ≡ OutcomeDone → ending ≡ Rested Done
+  ended set other steps ending same is done = is ∙ ap (λ g. Rested (ending_of (outcome g (end g steps)))) same ∙ ap (λ o. Rested (ending_of o)) done
 
-  pub plan_runs : (input text : List ℕ) (ending : Ending) → IsOnePlanText input → route.EachDelivers → IsSetOutput form.Plan listing input text ending → PlanRuns input text
+  pub plan_runs : (input text : List ℕ) (ending : CommandEnding) → IsOnePlanText input → route.EachDelivers → IsSetOutput form.Plan listing input text ending → PlanRuns input text
   plan_runs input text ending one_text delivers list =
       let made = list.meaning in
       let plan : HaulPlan = made.meant in
@@ -86,7 +86,7 @@ module _ (one : (form : InputForm) (input : List ℕ) → IsOneInput form input)
             };
       }
 
-  pub flow_runs : (input text : List ℕ) (ending : Ending) → IsOneText input → flow.EachPlacedFlowIsRight → IsSetOutput form.Flow listing input text ending → FlowRuns input text
+  pub flow_runs : (input text : List ℕ) (ending : CommandEnding) → IsOneText input → flow.EachPlacedFlowIsRight → IsSetOutput form.Flow listing input text ending → FlowRuns input text
   flow_runs input text ending one_text is_right list =
       let made = list.meaning in
       let placed : PlacedFlow = made.meant in
@@ -127,7 +127,7 @@ module _ (one : (form : InputForm) (input : List ℕ) → IsOneInput form input)
 
   -- what a run gives of a set that meets a flow, with these words in its sources
   computes : (flow : Dataflow) (words : List ℕ) (set : ProgramSet) (text : List ℕ) → IsSet set → text ≡ listing set → fed_with set words ≡ set → AreWords set words → Meets set flow
-      → (output : List ℕ) (ending : Ending) → IsRunOutput (State Report) set_form.Text text output ending → ScheduledComputes flow words set output ending
+      → (output : List ℕ) (ending : CommandEnding) → IsRunOutput (State Report) set_form.Text text output ending → ScheduledComputes flow words set output ending
   computes flow words set text valid listed own are meets output ending run =
       let same : run.set ≡ set = run_is set text output ending valid listed run in
       let is_run : IsRun set run.steps = subst (λ g. IsRun g run.steps) same run.run in
@@ -178,5 +178,5 @@ module _ (one : (form : InputForm) (input : List ℕ) → IsOneInput form input)
   made_by input text set one its_words true made listed = stream_runs input text set one.stream its_words made listed
   made_by input text set one its_words false made listed = scheduled_runs input text set one.flow made listed
 
-  pub made_runs : (input text : List ℕ) (ending : Ending) → IsOneFlow input → EachHasItsWords → IsScheduleOutput input text ending → MadeRuns (is_stream_text input) input text
+  pub made_runs : (input text : List ℕ) (ending : CommandEnding) → IsOneFlow input → EachHasItsWords → IsScheduleOutput input text ending → MadeRuns (is_stream_text input) input text
   made_runs input text ending one its_words out = made_by input text out.set one its_words (is_stream_text input) out.schedule out.written

@@ -7,8 +7,8 @@ use Rattle.raw_command_line.specs.declared.arguments.RunOptions.{RunOptions}
 use Rattle.raw_command_line.specs.declared.arguments.RunOutput.TheVariants.{History}
 use Rattle.raw_command_line.specs.declared.arguments.ReadingCommand.TheVariants as reading
 use Rattle.raw_command_line.specs.declared.arguments.Command.TheVariants.{Reads}
-use Rattle.raw_shell.specs.declared.ending.Ending.{Ending}
-use Rattle.raw_shell.specs.declared.ending.Ending.TheVariants.{Done}
+use Rattle.raw_shell.specs.declared.ending.CommandEnding.{CommandEnding}
+use Rattle.raw_shell.specs.declared.ending.CommandEnding.TheVariants.{Done}
 use Rattle.raw_shell.specs.Seen.{limit}
 use Rattle.raw_inputs.specs.Inputs.{whole, Means, AreSaid}
 use Rattle.raw_owed.specs.Owed.{Owes}
@@ -27,11 +27,11 @@ pub record HistoryIsLawful (form : SetForm) (input text : List ℕ) : Type 0 whe
   pub run : IsRun set steps
   pub said : AreSaid text set steps
   pub taken : Accepts reading.Check text
-  pub checked : (output : List ℕ) (ending : Ending) → Owes (Reads reading.Check) text output ending
+  pub checked : (output : List ℕ) (ending : CommandEnding) → Owes (Reads reading.Check) text output ending
       → (output ≡ codes "lawful " ++ (decimal (length steps) ++ codes "\n")) × (ending ≡ Done)
 
 -- so is what `history` writes, where it is no longer than an input may be
 abbrev pub EachHistoryIsLawful : Type 0
 EachHistoryIsLawful =
-    (form : SetForm) (workers : Option ℕ) (input text : List ℕ) (ending : Ending)
+    (form : SetForm) (workers : Option ℕ) (input text : List ℕ) (ending : CommandEnding)
     → Owes (Reads (reading.Run (history_run form workers))) input text ending → length text ≤ limit → HistoryIsLawful form input text

@@ -19,7 +19,7 @@ use Rattle.raw_command_line.specs.declared.arguments.ReadingCommand.{ReadingComm
 use Rattle.raw_command_line.specs.declared.arguments.ReadingCommand.TheVariants.{Run, Cycles, Path, Trace, Depths, Steady, Names, Lines, Asm, List as ListCommand, Plan as PlanCommand, Flow as FlowCommand, Check, Debug, Prove, ProveLive}
 use Rattle.raw_command_line.specs.declared.arguments.Command.{Command}
 use Rattle.raw_command_line.specs.declared.arguments.Command.TheVariants.{Alone, Reads}
-use Rattle.raw_shell.specs.declared.ending.Ending.{Ending}
+use Rattle.raw_shell.specs.declared.ending.CommandEnding.{CommandEnding}
 use Rattle.raw_inputs.specs.declared.flaw.Refusal.{Refusal}
 use Rattle.raw_shell.specs.declared.failure.Failure.TheVariants.{Refused, ReadFault, WriteFault, Memory, TooLong}
 use Rattle.raw_inputs.specs.declared.flaw.InputFlaw.TheVariants as flaw
@@ -77,8 +77,8 @@ module _ (law : (form : InputForm) (input : List ℕ) → IsOneInput form input)
   input_is read input si r = read_is call.seen.source.old.left call.seen.source.new.left read input si r.taken r.ended
 
   -- a command that reads, with what it owes
-  stands : (command : ReadingCommand) (Due : List ℕ → List ℕ → Ending → Type 0)
-      → ((input output : List ℕ) (ending : Ending) → Owes (Reads command) input output ending → Due input output ending)
+  stands : (command : ReadingCommand) (Due : List ℕ → List ℕ → CommandEnding → Type 0)
+      → ((input output : List ℕ) (ending : CommandEnding) → Owes (Reads command) input output ending → Due input output ending)
       → (input before : List ℕ) → call.seen.source.old.left ≡ Some input → call.seen.out.old.bytes ≡ Some before → (answer : Answer) → call.status ≡ status_of answer
       → Performed (Reads command) call.seen.source call.seen.out answer → IsEndingStatus (status_of answer) → CallStands Due input before call
   stands command Due owes input before si sb (Ok ending) is (inl s) h = absurd s.cause
@@ -95,8 +95,8 @@ module _ (law : (form : InputForm) (input : List ℕ) → IsOneInput form input)
   stands command Due owes input before si sb (Err failure) is p h = absurd (not_done failure h)
 
   -- a command that reads nothing, with what it owes
-  stands_alone : (command : AloneCommand) (Due : List ℕ → Ending → Type 0)
-      → ((output : List ℕ) (ending : Ending) → Owes (Alone command) [] output ending → Due output ending)
+  stands_alone : (command : AloneCommand) (Due : List ℕ → CommandEnding → Type 0)
+      → ((output : List ℕ) (ending : CommandEnding) → Owes (Alone command) [] output ending → Due output ending)
       → (before : List ℕ) → call.seen.out.old.bytes ≡ Some before → (answer : Answer) → call.status ≡ status_of answer
       → Performed (Alone command) call.seen.source call.seen.out answer → IsEndingStatus (status_of answer) → StandsAlone Due before call
   stands_alone command Due owes before sb (Ok ending) is p h =
@@ -121,7 +121,7 @@ module _ (law : (form : InputForm) (input : List ℕ) → IsOneInput form input)
         x.line_is ∙ ap (λ (q : ProgramSet × ℕ). q.1 + 1 + x.at + 1) same ∙ ap (λ k. y.meaning.place + 1 + k + 1) at ∙ sym y.line_is,
       )
 
-  not_past : (input output other : List ℕ) (line : ℕ) (ending : Ending) → IsPastOutput input output line → IsDebugOutput input other ending → ⊥
+  not_past : (input output other : List ℕ) (line : ℕ) (ending : CommandEnding) → IsPastOutput input output line → IsDebugOutput input other ending → ⊥
   not_past input output other line ending x y =
       let past = one_past law input x.set y.set x.meaning y.meaning in
       not_none _ x.at (past ∙ y.within) x.past
@@ -154,7 +154,7 @@ module _ (law : (form : InputForm) (input : List ℕ) → IsOneInput form input)
   stops_past input before si sb short output line past fs fo _ is (inl s) said = absurd s.cause
 
   -- a whole output
-  finished : (command : Command) (input before read : List ℕ) (ending : Ending) → read ≡ input → call.seen.out.old.bytes ≡ Some before
+  finished : (command : Command) (input before read : List ℕ) (ending : CommandEnding) → read ≡ input → call.seen.out.old.bytes ≡ Some before
       → PutsWhole command read call.seen.out ending → Finished command input before call.seen.out (ending_status ending)
   finished command input before read ending same sb p = record {
     ending = ending;
@@ -244,14 +244,14 @@ module _ (law : (form : InputForm) (input : List ℕ) → IsOneInput form input)
   performed : (command : Command) → call.words ≡ Some command → Performed command call.seen.source call.seen.out e.answer
   performed command is = subst (λ w. Answered w call.seen.source call.seen.out e.answer) is e.answered
 
-  written : (command : ReadingCommand) (Due : List ℕ → List ℕ → Ending → Type 0)
-      → ((input output : List ℕ) (ending : Ending) → Owes (Reads command) input output ending → Due input output ending)
+  written : (command : ReadingCommand) (Due : List ℕ → List ℕ → CommandEnding → Type 0)
+      → ((input output : List ℕ) (ending : CommandEnding) → Owes (Reads command) input output ending → Due input output ending)
       → Written command Due call
   written command Due owes = λ is done input before si sb.
       stands law call command Due owes input before si sb e.answer e.status_is (performed (Reads command) is) (subst IsEndingStatus e.status_is done)
 
-  written_alone : (command : AloneCommand) (Due : List ℕ → Ending → Type 0)
-      → ((output : List ℕ) (ending : Ending) → Owes (Alone command) [] output ending → Due output ending)
+  written_alone : (command : AloneCommand) (Due : List ℕ → CommandEnding → Type 0)
+      → ((output : List ℕ) (ending : CommandEnding) → Owes (Alone command) [] output ending → Due output ending)
       → WrittenAlone command Due call
   written_alone command Due owes = λ is done before sb.
       stands_alone law call command Due owes before sb e.answer e.status_is (performed (Alone command) is) (subst IsEndingStatus e.status_is done)

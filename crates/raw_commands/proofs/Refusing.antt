@@ -2,7 +2,7 @@
 use Rattle.std.proofs.Common.{◌≡◌, ◌∙◌, ℕ, Bool, true, false, List, Option, Some, None, ap, inl, inr}
 use Rattle.raw_model.specs.Program.{ProgramSet}
 use Rattle.raw_debug.specs.Script.{past_end}
-use Rattle.raw_shell.specs.declared.ending.Ending.{Ending}
+use Rattle.raw_shell.specs.declared.ending.CommandEnding.{CommandEnding}
 use Rattle.raw_inputs.specs.declared.form.InputForm.{InputForm}
 use Rattle.raw_inputs.specs.declared.form.InputForm.TheVariants.{Text, Image, Plan, Flow, History, Script, Claim}
 use Rattle.raw_command_line.specs.declared.arguments.FlowSet.TheVariants.{Compiled, Scheduled, Endless}
@@ -30,11 +30,11 @@ pub not_none : (o : Option ℕ) (k : ℕ) → o ≡ None → o ≡ Some k → �
 not_none o k a b = cc (a, b)
 
 -- what is owed says the set and the claim
-says_claim : (b : Bool) (input output : List ℕ) (ending : Ending) → IsProveOutputBy b input output ending → (set : ProgramSet) × SaysClaimBy b input set
+says_claim : (b : Bool) (input output : List ℕ) (ending : CommandEnding) → IsProveOutputBy b input output ending → (set : ProgramSet) × SaysClaimBy b input set
 says_claim false input output ending owed = (owed.set, (owed.flow, owed.places, owed.meaning))
 says_claim true input output ending owed = (owed.set, (owed.fed, owed.meaning))
 
-says_live : (b : Bool) (input output : List ℕ) (ending : Ending) → IsLiveOutputBy b input output ending → (set : ProgramSet) × SaysClaimBy b input set
+says_live : (b : Bool) (input output : List ℕ) (ending : CommandEnding) → IsLiveOutputBy b input output ending → (set : ProgramSet) × SaysClaimBy b input set
 says_live false input output ending owed = (owed.set, (owed.flow, owed.places, owed.meaning))
 says_live true input output ending owed = (owed.set, (owed.fed, owed.meaning))
 

@@ -7,7 +7,7 @@ use Rattle.raw_debug.specs.Script.{past_end, script_text}
 use Rattle.raw_inputs.specs.declared.marked.Scripted.{Scripted}
 use Rattle.raw_command_line.specs.declared.arguments.ReadingCommand.TheVariants.{Debug}
 use Rattle.raw_command_line.specs.declared.arguments.Command.TheVariants.{Reads}
-use Rattle.raw_shell.specs.declared.ending.Ending.TheVariants.{Done}
+use Rattle.raw_shell.specs.declared.ending.CommandEnding.TheVariants.{Done}
 use Rattle.raw_inputs.specs.Inputs.{labels_before, lines_behind, IsScripted}
 use Rattle.raw_owed.specs.Owed.{IsDebugOutput, IsPastOutput, IsDue}
 

@@ -2,7 +2,7 @@
 use Rattle.std.specs.Prelude.{◌≡◌, ◌⊎◌, ℕ, List, [], Some, None}
 use Rattle.raw_command_line.specs.declared.arguments.Command.{Command}
 use Rattle.raw_command_line.specs.declared.arguments.Command.TheVariants.{Alone, Reads}
-use Rattle.raw_shell.specs.declared.ending.Ending.{Ending}
+use Rattle.raw_shell.specs.declared.ending.CommandEnding.{CommandEnding}
 use Rattle.raw_inputs.specs.declared.flaw.Refusal.{Refusal}
 use Rattle.raw_shell.specs.declared.failure.Failure.TheVariants.{Use, Refused, ReadFault, WriteFault, Memory, TooLong}
 use Rattle.raw_inputs.specs.declared.flaw.InputFlaw.TheVariants as flaw
@@ -79,7 +79,7 @@ pub record WasDone (call : Call) : Type 0 where
   pub words_are : call.words ≡ Some command
   pub input : List ℕ
   pub read : IsInput command call.seen.source input
-  pub ending : Ending
+  pub ending : CommandEnding
   pub status_is : call.status ≡ ending_status ending
   pub put : PutsWhole command input call.seen.out ending
   pub silent : Untouched call.seen.err

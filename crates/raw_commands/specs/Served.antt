@@ -5,7 +5,7 @@ use Rattle.raw_command_line.specs.declared.arguments.ReadingCommand.{ReadingComm
 use Rattle.raw_command_line.specs.declared.arguments.ReadingCommand.TheVariants as reading
 use Rattle.raw_command_line.specs.declared.arguments.Command.{Command}
 use Rattle.raw_command_line.specs.declared.arguments.Command.TheVariants.{Alone, Reads}
-use Rattle.raw_shell.specs.declared.ending.Ending.{Ending}
+use Rattle.raw_shell.specs.declared.ending.CommandEnding.{CommandEnding}
 use Rattle.raw_inputs.specs.declared.flaw.Refusal.{Refusal}
 use Rattle.raw_shell.specs.declared.failure.Failure.TheVariants.{Refused}
 use Rattle.raw_inputs.specs.declared.flaw.InputFlaw.TheVariants as flaw
@@ -18,16 +18,16 @@ use Rattle.raw_commands.specs.Call.{Call}
 
 -- A command that reads was done: an output that is due for the input was appended, the source has no bytes left, and the
 -- status is that of how the command ended.
-pub record CallStands (Due : List ℕ → List ℕ → Ending → Type 0) (input before : List ℕ) (call : Call) : Type 0 where
+pub record CallStands (Due : List ℕ → List ℕ → CommandEnding → Type 0) (input before : List ℕ) (call : Call) : Type 0 where
   pub output : List ℕ
-  pub ending : Ending
+  pub ending : CommandEnding
   pub due : Due input output ending
   pub held_now : call.seen.out.new.bytes ≡ Some (before ++ output)
   pub left_now : call.seen.source.new.left ≡ Some []
   pub ended : call.status ≡ ending_status ending
 
 -- After this command, which reads, has ended as one that was done: an output stands that is due for the input.
-abbrev pub Written : ReadingCommand → (List ℕ → List ℕ → Ending → Type 0) → Call → Type 0
+abbrev pub Written : ReadingCommand → (List ℕ → List ℕ → CommandEnding → Type 0) → Call → Type 0
 Written command Due call =
     call.words ≡ Some (Reads command) → IsEndingStatus call.status
     → (input before : List ℕ) → call.seen.source.old.left ≡ Some input → call.seen.out.old.bytes ≡ Some before
@@ -35,16 +35,16 @@ Written command Due call =
 
 -- A command that reads nothing was done: an output that is due was appended, the source was not asked, and the status is that
 -- of how the command ended.
-pub record StandsAlone (Due : List ℕ → Ending → Type 0) (before : List ℕ) (call : Call) : Type 0 where
+pub record StandsAlone (Due : List ℕ → CommandEnding → Type 0) (before : List ℕ) (call : Call) : Type 0 where
   pub output : List ℕ
-  pub ending : Ending
+  pub ending : CommandEnding
   pub due : Due output ending
   pub held_now : call.seen.out.new.bytes ≡ Some (before ++ output)
   pub unread : Unread call.seen.source
   pub ended : call.status ≡ ending_status ending
 
 -- After this command, which reads nothing, has ended as one that was done: an output stands that is due.
-abbrev pub WrittenAlone : AloneCommand → (List ℕ → Ending → Type 0) → Call → Type 0
+abbrev pub WrittenAlone : AloneCommand → (List ℕ → CommandEnding → Type 0) → Call → Type 0
 WrittenAlone command Due call =
     call.words ≡ Some (Alone command) → IsEndingStatus call.status
     → (before : List ℕ) → call.seen.out.old.bytes ≡ Some before → StandsAlone Due before call
@@ -55,7 +55,7 @@ ReadsNothing call = (command : AloneCommand) → call.words ≡ Some (Alone comm
 
 -- the whole output of a command was appended, and the status is its own
 pub record Finished (command : Command) (input before : List ℕ) (out : SinkSeen) (status : ℕ) : Type 0 where
-  pub ending : Ending
+  pub ending : CommandEnding
   pub output : List ℕ
   pub owed : Owes command input output ending
   pub held_now : out.new.bytes ≡ Some (before ++ output)

@@ -21,7 +21,7 @@ use raw_proof_commands::{
 };
 use raw_run_commands::{check_history, put_path, run_cycles, run_generated, run_set, run_trace};
 use raw_set_text::list_set;
-use raw_shell::{Ending, FixedText};
+use raw_shell::{CommandEnding, FixedText};
 use raw_text::MAX_TEXT;
 use raw_workers::Gate;
 use std::alloc::Global;
@@ -110,7 +110,7 @@ fn put_names<K: Sink>(set: &Set, form: SetForm, out: &mut K) -> Answer
         Obeyed (Command.Reads (ReadingCommand.Names form)) input
         (sink_seen K.sight out.old out.new) result }
 {
-    ended(write_names(set, out), Ending::Done)
+    ended(write_names(set, out), CommandEnding::Done)
 }
 
 // How a set comes to rest at each depth of its queues.
@@ -122,7 +122,7 @@ fn run_depths<K: Sink>(alloc: Global, set: &mut Set, form: SetForm, out: &mut K)
     let Ok(found) = depths(alloc, set) else {
         return Err(Failure::Memory);
     };
-    ended(write_depths(&found, out), Ending::Done)
+    ended(write_depths(&found, out), CommandEnding::Done)
 }
 
 // The image of a set.

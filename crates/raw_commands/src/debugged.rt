@@ -11,7 +11,7 @@ use raw_inputs::{Failure, InputFlaw, LineKind, Refusal, script_in};
 use raw_io::Sink;
 use raw_lines::TextLabels;
 use raw_owed::Answer;
-use raw_shell::Ending;
+use raw_shell::CommandEnding;
 use std::alloc::Global;
 
 /// Runs the script behind the set in an input, and puts what it shows.
@@ -36,7 +36,7 @@ pub(crate) fn run_script<K: Sink>(alloc: Global, input: Vec<u8>, out: &mut K) ->
         scripted.from,
         out,
     ) {
-        Ok(()) => Ok(Ending::Done),
+        Ok(()) => Ok(CommandEnding::Done),
         Err(DebugRefusal::BadCommand { line }) => {
             Err(Failure::Refused(InputFlaw::At(Refusal::Line(line, LineKind::BadCommand))))
         }

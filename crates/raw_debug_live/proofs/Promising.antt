@@ -1,7 +1,7 @@
 -- What a call promises, from the relation that it meets.
 use Rattle.std.proofs.Common.{◌≡◌, ◌⊎◌, ℕ, ◌-◌, Result, Ok, Err, refl, sym, ◌∙◌, subst, inl, inr, ⊎_elim, arith}
 use Rattle.raw_text.specs.declared.limits.TheConstants.{MAX_TEXT}
-use Rattle.raw_shell.specs.declared.ending.Ending.TheVariants.{Done}
+use Rattle.raw_shell.specs.declared.ending.CommandEnding.TheVariants.{Done}
 use Rattle.raw_shell.specs.declared.failure.Failure.TheVariants.{Use, Refused, ReadFault, WriteFault, Memory, TooLong}
 use Rattle.raw_shell.specs.Answers.{status_of, Said}
 use Rattle.raw_shell.specs.Seen.{Seen, ReadFails, Untouched, GivesOneTooMany}

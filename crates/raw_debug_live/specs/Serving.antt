@@ -13,7 +13,7 @@ use Rattle.raw_set_text.specs.declared.kind.SetRefusal.TheVariants.{At}
 use Rattle.raw_set_text.specs.Kinds.{set_kind_text}
 use Rattle.raw_set_text.specs.Meaning.{IsMeaning, IsCause}
 use Rattle.raw_set_text.specs.Texts.{token_lines}
-use Rattle.raw_shell.specs.declared.ending.Ending.TheVariants.{Done}
+use Rattle.raw_shell.specs.declared.ending.CommandEnding.TheVariants.{Done}
 use Rattle.raw_shell.specs.declared.failure.Failure.{Failure as FailureOf}
 use Rattle.raw_shell.specs.declared.failure.Failure.TheVariants.{Refused, ReadFault, WriteFault, Memory, TooLong}
 use Rattle.raw_shell.specs.Answers as shell

@@ -9,7 +9,7 @@ use crate::answering::{Halt, answer_lines};
 use crate::begin::{begin, labels_of};
 use raw_debug::Debugger;
 use raw_io::{Sink, Source};
-use raw_shell::{Ending, conclude};
+use raw_shell::{CommandEnding, conclude};
 use raw_text::MAX_TEXT;
 use std::alloc::Global;
 
@@ -18,7 +18,7 @@ fn answer_of(answered: Result<(), Halt>) -> Answer
     ensures { result ≡ answer_of answered }
 {
     match answered {
-        Ok(()) => Ok(Ending::Done),
+        Ok(()) => Ok(CommandEnding::Done),
         Err(Halt::Read) => Err(Failure::ReadFault),
         Err(Halt::Write) => Err(Failure::WriteFault),
         Err(Halt::TooLong) => Err(Failure::TooLong),

@@ -19,9 +19,10 @@ use Rattle.raw_live.specs.Ending.{rest_text}
 use Rattle.raw_live.specs.Due.{rest_of, ending_at, live_items, live_text, due_text}
 use Rattle.raw_live.proofs.Growth.{begins_over}
 use Rattle.raw_shell.specs.declared.failure.Failure.TheVariants.{Use, Refused, ReadFault, WriteFault, Memory, TooLong}
-use Rattle.raw_shell.specs.Answers.{failure_status}
+use Rattle.raw_shell.specs.declared.ending.CommandEnding.TheVariants.{Rested}
+use Rattle.raw_shell.specs.Answers.{ending_status, failure_status}
 use Rattle.raw_shell.specs.Seen.{SinkSeen}
-use Rattle.raw_live_run.specs.Answers.{Answer, Failure, rest_status, status_of}
+use Rattle.raw_live_run.specs.Answers.{Answer, Failure, status_of}
 use Rattle.raw_live_run.specs.Call.{Call, IsRestStatus}
 use Rattle.raw_live_run.specs.Live.{SaysWords, put_by}
 use Rattle.raw_live_run.specs.Reaching.{Reached}
@@ -51,15 +52,15 @@ told_whole (Some xs) (Some ys) input bytes e c ended =
     let same : xs ≡ input = cc e in (sym (append-nil bytes) ∙ ap (λ l. bytes ++ l) (sym ended) ∙ sym c ∙ same, ap Some ended)
 
 -- the status of an ending is that of no failure
-pub low : (how : Ending) → rest_status how ≤ 6
+pub low : (how : Ending) → ending_status (Rested how) ≤ 6
 low ending.Done = omega arith
 low _ = omega arith
 
-not_two : (how : Ending) → rest_status how ≡ 2 → ⊥
+not_two : (how : Ending) → ending_status (Rested how) ≡ 2 → ⊥
 not_two ending.Done e = omega (arith, e)
 not_two _ e = omega (arith, e)
 
-no_failure : (how : Ending) (failure : Failure) → rest_status how ≡ failure_status failure → ⊥
+no_failure : (how : Ending) (failure : Failure) → ending_status (Rested how) ≡ failure_status failure → ⊥
 no_failure how Use e = not_two how e
 no_failure how (Refused flaw) e = not_two how e
 no_failure how _ e = omega (arith, low how, e)
@@ -109,7 +110,7 @@ module _ (laws : LawsOfGots) (due : LawsOfDue) where
     all_first = ([], append-nil (due_text first words))
 
   module _ (call : Call) (input before : List ℕ) (told : call.seen.source.old.left ≡ Some input) (held : call.seen.out.old.bytes ≡ Some before) where
-    fed_whole : (how : Ending) → call.status ≡ rest_status how → Reached call.seen.source call.seen.out (Ok how) → RestStands input before call
+    fed_whole : (how : Ending) → call.status ≡ ending_status (Rested how) → Reached call.seen.source call.seen.out (Ok how) → RestStands input before call
     fed_whole how e r =
         let whole = told_whole call.seen.source.old.left call.seen.source.new.left input r.bytes told r.taken r.read.ended in
         let lines : r.lines ≡ lines_of input = r.read.all ∙ ap lines_of whole.0 in

@@ -3,13 +3,11 @@ use Rattle.std.specs.Prelude.{List, ◌++◌, ℕ, codes, Result, Ok, Err}
 use Rattle.raw_set_text.specs.Kinds.{set_kind_text}
 use Rattle.raw_live_text.specs.Kinds.{line_fault_text}
 use Rattle.raw_model.specs.declared.ending.Ending.{Ending}
-use Rattle.raw_model.specs.declared.ending.Ending.TheVariants as rest
 use Rattle.raw_live_text.specs.declared.stop.Stop.{Stop}
 use Rattle.raw_live_text.specs.declared.stop.Stop.TheVariants as stop
 use Rattle.raw_live.specs.declared.live.Halt.{Halt}
 use Rattle.raw_live.specs.declared.live.Halt.TheVariants as halt
-use Rattle.raw_shell.specs.declared.ending.Ending.{Ending as ShellEnding}
-use Rattle.raw_shell.specs.declared.ending.Ending.TheVariants as ending
+use Rattle.raw_shell.specs.declared.ending.CommandEnding.TheVariants.{Rested}
 use Rattle.raw_shell.specs.declared.failure.Failure.{Failure as FailureOf}
 use Rattle.raw_shell.specs.declared.failure.Failure.TheVariants.{Refused, ReadFault, WriteFault, Memory, TooLong}
 use Rattle.raw_shell.specs.declared.arguments.FixedText.{FixedText}
@@ -27,22 +25,10 @@ Failure = FailureOf LineFlaw
 abbrev pub Answer : Type 0
 Answer = Result Ending Failure
 
--- how a command ended whose live grid came to rest so
-abbrev pub ended_as : Ending → ShellEnding
-ended_as rest.Done = ending.Done
-ended_as rest.Deadlock = ending.Deadlock
-ended_as rest.Stuck = ending.Stuck
-ended_as rest.Trapped = ending.Trapped
-ended_as rest.Limit = ending.Limit
-
 -- an answer of this program as one of any program
 abbrev pub as_program_answer : Answer → shell.Answer LineFlaw
-as_program_answer (Ok how) = Ok (ended_as how)
+as_program_answer (Ok how) = Ok (Rested how)
 as_program_answer (Err failure) = Err failure
-
--- the status of a grid that came to rest
-abbrev pub rest_status : Ending → ℕ
-rest_status how = shell.ending_status (ended_as how)
 
 -- the status of an answer
 abbrev pub status_of : Answer → ℕ

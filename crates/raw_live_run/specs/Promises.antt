@@ -10,9 +10,11 @@ use Rattle.raw_live.specs.Gots.{gots}
 use Rattle.raw_live.specs.Engine.{got_at, with_items}
 use Rattle.raw_live.specs.Due.{due_text}
 use Rattle.raw_shell.specs.declared.failure.Failure.TheVariants.{Memory}
+use Rattle.raw_shell.specs.declared.ending.CommandEnding.TheVariants.{Rested}
+use Rattle.raw_shell.specs.Answers.{ending_status}
 use Rattle.raw_shell.specs.Seen.{SourceSeen, SinkSeen, ReadFails, WriteFails, Untouched, GivesTooMany, limit}
 use Rattle.raw_live_run.specs.declared.arguments.Command.TheVariants.{Feed}
-use Rattle.raw_live_run.specs.Answers.{Answer, rest_status, status_of}
+use Rattle.raw_live_run.specs.Answers.{Answer, status_of}
 use Rattle.raw_live_run.specs.Call.{Call, IsRestStatus}
 use Rattle.raw_live_run.specs.Live.{Live, put_by}
 use Rattle.raw_live_run.specs.Serving.{EndsInHead, Ended}
@@ -30,7 +32,7 @@ pub record RestStands (input before : List ℕ) (call : Call) : Type 0 where
   pub some_run : (h : List ℕ) × IsRun set h
   pub ending : Ending
   pub ended : (h : List ℕ) → IsRun set h → ending ≡ ending_of (outcome set (end set h))
-  pub status_is : call.status ≡ rest_status ending
+  pub status_is : call.status ≡ ending_status (Rested ending)
   pub held_now : call.seen.out.new.bytes ≡ Some (before ++ due_text live.says.first (put_by live.says).items)
   pub says : (h : List ℕ) (port : ℕ) → IsRun set h → port < 2 ^ 32 → gots (due_text live.says.first (put_by live.says).items) port ≡ got_at (end set h) port
 

@@ -1,12 +1,12 @@
 //! The answers of the program, and the line of what is wrong with a line of its input.
 ghost use Rattle.std.specs.Prelude.{◌≡◌};
-ghost use Rattle.raw_live_run.specs.Answers.{ended_as, as_program_answer, flaw_line};
+ghost use Rattle.raw_live_run.specs.Answers.{as_program_answer, flaw_line};
 
 use raw_io::{Failed, Sink};
 use raw_live_text::LineFault;
 use raw_model::Ending;
 use raw_set_text::SetKind;
-use raw_shell::{Flaw, put_refused};
+use raw_shell::{CommandEnding, Flaw, put_refused};
 
 /// What is wrong with a line of the input, counted from 1.
 #[derive(Clone, Copy, PartialEq, Eq)]
@@ -38,25 +38,12 @@ pub type Failure = raw_shell::Failure<LineFlaw>;
 /// How a call of the program ended: how the grid came to rest, `Done` where a fixed text was written, or why not.
 pub type Answer = Result<Ending, Failure>;
 
-// How a command ended whose live grid came to rest so.
-fn ended_as(ending: Ending) -> raw_shell::Ending
-    ensures { result ≡ ended_as ending }
-{
-    match ending {
-        Ending::Done => raw_shell::Ending::Done,
-        Ending::Deadlock => raw_shell::Ending::Deadlock,
-        Ending::Stuck => raw_shell::Ending::Stuck,
-        Ending::Trapped => raw_shell::Ending::Trapped,
-        Ending::Limit => raw_shell::Ending::Limit,
-    }
-}
-
 /// The answer as one of any program.
 pub fn as_program_answer(answer: Answer) -> raw_shell::Answer<LineFlaw>
     ensures { result ≡ as_program_answer answer }
 {
     match answer {
-        Ok(ending) => Ok(ended_as(ending)),
+        Ok(ending) => Ok(CommandEnding::Rested(ending)),
         Err(failure) => Err(failure),
     }
 }

@@ -1,7 +1,7 @@
 -- A front of a text that was put on a sink.
 use Rattle.std.proofs.Common.{ℕ, List, inl}
 use Rattle.raw_io.specs.Writing.{AppendsProperFront, grown}
-use Rattle.raw_shell.specs.declared.ending.Ending.{Ending}
+use Rattle.raw_shell.specs.declared.ending.CommandEnding.{CommandEnding}
 use Rattle.raw_shell.specs.Seen.{SinkSeen, WriteFails}
 use Rattle.raw_shell.proofs.Fronts.{front_put}
 use Rattle.raw_command_line.specs.declared.arguments.Command.{Command}
@@ -21,6 +21,6 @@ puts_due command input out text due front failed = record {
 }
 
 -- the same of what a command owes that is done
-pub puts_front : (command : Command) (input : List ℕ) (out : SinkSeen) (text : List ℕ) → (ending : Ending) × Owes command input text ending
+pub puts_front : (command : Command) (input : List ℕ) (out : SinkSeen) (text : List ℕ) → (ending : CommandEnding) × Owes command input text ending
     → AppendsProperFront out.old.bytes out.new.bytes text → WriteFails out → PutsFront command input out
 puts_front command input out text owed front failed = puts_due command input out text (inl owed) front failed

@@ -4,8 +4,8 @@ use Rattle.raw_steps.specs.declared.checking.Why.{Why}
 use Rattle.raw_steps.specs.declared.checking.Why.TheVariants.{Stopped, Waits}
 use Rattle.raw_steps.specs.declared.checking.CheckAnswer.{CheckAnswer}
 use Rattle.raw_steps.specs.declared.checking.CheckAnswer.TheVariants.{Lawful, Unlawful}
-use Rattle.raw_shell.specs.declared.ending.Ending.{Ending}
-use Rattle.raw_shell.specs.declared.ending.Ending.TheVariants as ending
+use Rattle.raw_shell.specs.declared.ending.CommandEnding.{CommandEnding}
+use Rattle.raw_shell.specs.declared.ending.CommandEnding.TheVariants as ending
 
 -- why a step can't be taken
 abbrev pub why_text : Why → List ℕ
@@ -22,6 +22,6 @@ check_line steps Lawful = codes "lawful " ++ (decimal (length steps) ++ codes "\
 check_line steps (Unlawful place told) = place_text place (slice_index steps place) (why_text told)
 
 -- how `check` ends
-abbrev pub check_ending : CheckAnswer → Ending
+abbrev pub check_ending : CheckAnswer → CommandEnding
 check_ending Lawful = ending.Done
 check_ending (Unlawful place told) = ending.Unlawful

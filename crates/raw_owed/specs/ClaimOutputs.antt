@@ -18,7 +18,7 @@ use Rattle.raw_verdict.specs.Text.{answer_text}
 use Rattle.raw_claim_text.specs.Texts.{ClaimMeaning}
 use Rattle.raw_row_claim_text.specs.Texts.{RowMeaning}
 use Rattle.raw_row_claim_text.specs.Seats.{IsSeatedAs}
-use Rattle.raw_shell.specs.declared.ending.Ending.{Ending}
+use Rattle.raw_shell.specs.declared.ending.CommandEnding.{CommandEnding}
 use Rattle.raw_owed.specs.declared.limits.TheConstants.{MAX_TOLD_WORDS}
 use Rattle.raw_owed.specs.Proved.{prove_ending}
 use Rattle.raw_inputs.specs.Claimed.{says_rows}
@@ -29,7 +29,7 @@ use Rattle.raw_inputs.specs.Claimed.{says_rows}
 -- names none, are then the values of its outs for these words, and each sink has as many words as are claimed of it. The clock of the set
 -- has as many cycles as the line tells. Where it is refuted, each lawful list that comes to rest with the words that are told ends as is
 -- told, and none ends right
-pub record IsFlowAnswered (input output : List ℕ) (ending : Ending) : Type 0 where
+pub record IsFlowAnswered (input output : List ℕ) (ending : CommandEnding) : Type 0 where
   pub set : ProgramSet
   pub flow : Dataflow
   pub places : List Place
@@ -49,7 +49,7 @@ told_words left = if nat_lt MAX_TOLD_WORDS (all_words left) then [] else written
 -- and `order` has those of its sinks. Where it is proved, the set meets the flow that the stream is when it is unrolled. Each sink has received what
 -- it is due of all rows, row by row: with any words in its sources, in each lawful list of its steps that comes to rest, which ends done. Where it is
 -- proved by rows, the line tells no cycles. Where it is proved by one run over all rows, the clock of the set has as many cycles as the line tells.
-pub record IsRowsAnswered (input output : List ℕ) (ending : Ending) : Type 0 where
+pub record IsRowsAnswered (input output : List ℕ) (ending : CommandEnding) : Type 0 where
   pub set : ProgramSet
   pub fed : FedStream
   pub meaning : RowMeaning input set fed
@@ -64,10 +64,10 @@ pub record IsRowsAnswered (input output : List ℕ) (ending : Ending) : Type 0 w
   pub ended : ending ≡ prove_ending answer
 
 -- what is said of the claim that the input says, of a stream where that is true, and else of a flow
-abbrev pub IsProveOutputBy : Bool → List ℕ → List ℕ → Ending → Type 0
+abbrev pub IsProveOutputBy : Bool → List ℕ → List ℕ → CommandEnding → Type 0
 IsProveOutputBy false input output ending = IsFlowAnswered input output ending
 IsProveOutputBy true input output ending = IsRowsAnswered input output ending
 
 -- `prove`: what is said of the claim that the input says
-abbrev pub IsProveOutput : List ℕ → List ℕ → Ending → Type 0
+abbrev pub IsProveOutput : List ℕ → List ℕ → CommandEnding → Type 0
 IsProveOutput input output ending = IsProveOutputBy (says_rows input) input output ending

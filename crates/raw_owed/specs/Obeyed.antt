@@ -1,7 +1,7 @@
 -- What a command may answer for its input, and what it then did to out.
 use Rattle.std.specs.Prelude.{ℕ, ◌<◌, ◌≤◌, List, length, take, Ok, Err}
 use Rattle.raw_command_line.specs.declared.arguments.Command.{Command}
-use Rattle.raw_shell.specs.declared.ending.Ending.{Ending}
+use Rattle.raw_shell.specs.declared.ending.CommandEnding.{CommandEnding}
 use Rattle.raw_inputs.specs.declared.flaw.Refusal.{Refusal}
 use Rattle.raw_shell.specs.declared.failure.Failure.TheVariants.{Refused, WriteFault, Memory}
 use Rattle.raw_inputs.specs.declared.flaw.InputFlaw.TheVariants as flaw
@@ -10,7 +10,7 @@ use Rattle.raw_owed.specs.Owed.{Owes, GoesPast, Refuses, IsDue}
 use Rattle.raw_shell.specs.Seen.{SinkSeen, WriteFails, Untouched, Puts}
 
 -- all that is due was put
-pub record PutsWhole (command : Command) (input : List ℕ) (out : SinkSeen) (ending : Ending) : Type 0 where
+pub record PutsWhole (command : Command) (input : List ℕ) (out : SinkSeen) (ending : CommandEnding) : Type 0 where
   pub output : List ℕ
   pub owed : Owes command input output ending
   pub put : Puts out output

@@ -49,10 +49,9 @@ use Rattle.raw_command_line.specs.declared.arguments.ReadingCommand.{ReadingComm
 use Rattle.raw_command_line.specs.declared.arguments.ReadingCommand.TheVariants as reading
 use Rattle.raw_command_line.specs.declared.arguments.Command.{Command}
 use Rattle.raw_command_line.specs.declared.arguments.Command.TheVariants.{Alone, Reads}
-use Rattle.raw_shell.specs.declared.ending.Ending.{Ending}
-use Rattle.raw_shell.specs.declared.ending.Ending.TheVariants.{Done}
+use Rattle.raw_shell.specs.declared.ending.CommandEnding.{CommandEnding}
+use Rattle.raw_shell.specs.declared.ending.CommandEnding.TheVariants.{Done, Rested}
 use Rattle.raw_inputs.specs.declared.flaw.Refusal.{Refusal}
-use Rattle.raw_shell.specs.Answers.{ending_of}
 use Rattle.raw_owed.specs.Answers.{fixed_text_of}
 use Rattle.raw_owed.specs.EachRun.{StandsForAll}
 use Rattle.raw_model.specs.Start.{start}
@@ -111,13 +110,13 @@ run_text History set steps = listing set ++ history_text steps
 
 -- `run`, `picture` and `history`: what is written of a lawful list of steps of the set that the input means; the list comes to
 -- rest, and stands for each other such list
-pub record IsRunOutput (output : RunOutput) (form : SetForm) (input bytes : List ℕ) (ending : Ending) : Type 0 where
+pub record IsRunOutput (output : RunOutput) (form : SetForm) (input bytes : List ℕ) (ending : CommandEnding) : Type 0 where
   pub set : ProgramSet
   pub meaning : Means (whole form) input set
   pub steps : List ℕ
   pub run : IsRun set steps
   pub written : bytes ≡ run_text output set steps
-  pub ended : ending ≡ ending_of (outcome set (end set steps))
+  pub ended : ending ≡ Rested (ending_of (outcome set (end set steps)))
   pub for_all : StandsForAll set steps
 
 -- the text of the clock of a set that has n cycles, with the lines of its lost cycles or without them
@@ -127,7 +126,7 @@ counted_text true set n = lost_text set n
 
 -- `cycles`: the text of the clock of the set that the input means, at the number of its cycles; its steps are a run, and no schedule is
 -- sooner. The lost cycles of each processor are together those in which it waited
-pub record IsCyclesOutput (options : CyclesOptions) (input bytes : List ℕ) (ending : Ending) : Type 0 where
+pub record IsCyclesOutput (options : CyclesOptions) (input bytes : List ℕ) (ending : CommandEnding) : Type 0 where
   pub set : ProgramSet
   pub meaning : Means (whole options.form) input set
   pub cycles : ℕ
@@ -136,19 +135,19 @@ pub record IsCyclesOutput (options : CyclesOptions) (input bytes : List ℕ) (en
   pub soonest : NoneIsSooner set cycles
   pub lost : (p : ℕ) → p < proc_count set.topo → LostAddUp set cycles p
   pub written : bytes ≡ counted_text options.lost set cycles
-  pub ended : ending ≡ ending_of (outcome set (end set (clock_steps set cycles)))
+  pub ended : ending ≡ Rested (ending_of (outcome set (end set (clock_steps set cycles))))
 
 -- `path`: the text of the path of the set that the input means, at the number of its cycles. Where it has a cycle,
 -- the path is a chain of turns, one of each cycle, each of which needs the one before it. No schedule has its last
 -- turn sooner.
-pub record IsPathOutput (form : SetForm) (input bytes : List ℕ) (ending : Ending) : Type 0 where
+pub record IsPathOutput (form : SetForm) (input bytes : List ℕ) (ending : CommandEnding) : Type 0 where
   pub set : ProgramSet
   pub meaning : Means (whole form) input set
   pub cycles : ℕ
   pub counted : HasCycles set cycles
   pub path : (k : ℕ) → suc k ≡ cycles → IsItsPath set k
   pub written : bytes ≡ path_text set cycles
-  pub ended : ending ≡ ending_of (outcome set (end set (clock_steps set cycles)))
+  pub ended : ending ≡ Rested (ending_of (outcome set (end set (clock_steps set cycles))))
 
 -- the trace of a set that has n cycles, with this in front, or the page that shows it: the viewer before and behind the place of the trace
 abbrev pub written_as : TraceOutput → List ℕ → ProgramSet → Bool → ℕ → ℕ → ℕ → List ℕ
@@ -163,22 +162,22 @@ traced options sources set n =
     written_as options.output (listing set ++ sources) set (has_whole options.whole set n) n (unwrap_or options.from 0) (unwrap_or options.cycles DEFAULT_TRACE_CYCLES)
 
 -- what is written of the cycles of the set that the input means, where this is told of its text; the steps of its clock are a run
-pub record IsTracedWith (sources : ProgramSet → List ℕ) (options : TraceOptions) (input bytes : List ℕ) (ending : Ending) : Type 0 where
+pub record IsTracedWith (sources : ProgramSet → List ℕ) (options : TraceOptions) (input bytes : List ℕ) (ending : CommandEnding) : Type 0 where
   pub set : ProgramSet
   pub meaning : Means (whole options.form) input set
   pub cycles : ℕ
   pub counted : HasCycles set cycles
   pub run : IsRun set (clock_steps set cycles)
   pub written : bytes ≡ traced options (sources set) set cycles
-  pub ended : ending ≡ ending_of (outcome set (end set (clock_steps set cycles)))
+  pub ended : ending ≡ Rested (ending_of (outcome set (end set (clock_steps set cycles))))
 
 -- `trace` and `explore`: of an input that is a text, it is told which line gives each instruction, and which labels stand there
-abbrev pub IsTraceOutput : TraceOptions → List ℕ → List ℕ → Ending → Type 0
+abbrev pub IsTraceOutput : TraceOptions → List ℕ → List ℕ → CommandEnding → Type 0
 IsTraceOutput options input bytes ending = IsTracedWith (sources_in options.form input) options input bytes ending
 
 -- `depths`: the text of the set that the input means at each depth; its cycles are those of its clock, and where at rest none waits for
 -- room, no greater depth has more
-pub record IsDepthsOutput (form : SetForm) (input output : List ℕ) (ending : Ending) : Type 0 where
+pub record IsDepthsOutput (form : SetForm) (input output : List ℕ) (ending : CommandEnding) : Type 0 where
   pub set : ProgramSet
   pub meaning : Means (whole form) input set
   pub cycles : AreItsCycles set
@@ -187,7 +186,7 @@ pub record IsDepthsOutput (form : SetForm) (input output : List ℕ) (ending : E
 
 -- `steady`: what the serial run with terms says of the time of the set that the input means. Where it says that the set is steady, its
 -- clock is the same with all words in its sources
-pub record IsSteadyOutput (form : SetForm) (input output : List ℕ) (ending : Ending) : Type 0 where
+pub record IsSteadyOutput (form : SetForm) (input output : List ℕ) (ending : CommandEnding) : Type 0 where
   pub set : ProgramSet
   pub meaning : Means (whole form) input set
   pub steadiness : Steadiness
@@ -196,19 +195,19 @@ pub record IsSteadyOutput (form : SetForm) (input output : List ℕ) (ending : E
   pub ended : ending ≡ steady_ending steadiness
 
 -- the set that the input means, as these bytes of it
-pub record IsSetOutput (form : InputForm) (bytes_of : ProgramSet → List ℕ) (input output : List ℕ) (ending : Ending) : Type 0 where
+pub record IsSetOutput (form : InputForm) (bytes_of : ProgramSet → List ℕ) (input output : List ℕ) (ending : CommandEnding) : Type 0 where
   pub set : ProgramSet
   pub meaning : Means form input set
   pub written : output ≡ bytes_of set
   pub ended : ending ≡ Done
 
 -- `lines`: which line of the input gives each instruction of the programs of its set, and which labels stand there
-abbrev pub IsLinesOutput : List ℕ → List ℕ → Ending → Type 0
+abbrev pub IsLinesOutput : List ℕ → List ℕ → CommandEnding → Type 0
 IsLinesOutput input output ending = IsSetOutput form.Text (λ set. lines_text set.topo (token_lines input)) input output ending
 
 -- `check`: whether the steps that the input says are lawful from the start of its set; of steps that are not, the place of the first that is not
 -- enabled when its turn comes, and why
-pub record IsCheckOutput (input output : List ℕ) (ending : Ending) : Type 0 where
+pub record IsCheckOutput (input output : List ℕ) (ending : CommandEnding) : Type 0 where
   pub set : ProgramSet
   pub meaning : SaysSteps input set
   pub answer : CheckAnswer
@@ -218,7 +217,7 @@ pub record IsCheckOutput (input output : List ℕ) (ending : Ending) : Type 0 wh
   pub ended : ending ≡ check_ending answer
 
 -- `debug`: what the script shows that the input says, all of whose lines go to steps that are there
-pub record IsDebugOutput (input output : List ℕ) (ending : Ending) : Type 0 where
+pub record IsDebugOutput (input output : List ℕ) (ending : CommandEnding) : Type 0 where
   pub set : ProgramSet
   pub meaning : SaysScript input set
   pub within : past_end (labels_before set input meaning.place) set (lines_behind input meaning.place) ≡ None
@@ -236,15 +235,15 @@ pub record IsPastOutput (input output : List ℕ) (line : ℕ) : Type 0 where
 
 -- `work n`: the line of a lawful list of steps of the generated set of n words that comes to rest, and so of each such
 -- list
-pub record IsWorkOutput (n : ℕ) (output : List ℕ) (ending : Ending) : Type 0 where
+pub record IsWorkOutput (n : ℕ) (output : List ℕ) (ending : CommandEnding) : Type 0 where
   pub steps : List ℕ
   pub run : IsRun (generated n) steps
   pub written : output ≡ summary n steps
-  pub ended : ending ≡ ending_of (outcome (generated n) (end (generated n) steps))
+  pub ended : ending ≡ Rested (ending_of (outcome (generated n) (end (generated n) steps)))
   pub alike : (others : List ℕ) → IsRun (generated n) others → summary n others ≡ summary n steps
 
 -- `--help` and `--version`: the text
-pub record IsTextOutput (text : FixedText) (output : List ℕ) (ending : Ending) : Type 0 where
+pub record IsTextOutput (text : FixedText) (output : List ℕ) (ending : CommandEnding) : Type 0 where
   pub written : output ≡ fixed_text_of text
   pub ended : ending ≡ Done
 
@@ -252,7 +251,7 @@ pub record IsTextOutput (text : FixedText) (output : List ℕ) (ending : Ending)
 -- means, and `list` the listing of the set whose image it reads. `plan` owes that of the planned set, and `flow`
 -- that of the compiled one or of one that is scheduled, for the rows of its text or for rows without end. A command
 -- that reads nothing has the empty input.
-abbrev pub Owes : Command → List ℕ → List ℕ → Ending → Type 0
+abbrev pub Owes : Command → List ℕ → List ℕ → CommandEnding → Type 0
 Owes (Alone (Fixed text)) input output ending = IsTextOutput text output ending
 Owes (Alone (Work n workers)) input output ending = IsWorkOutput n output ending
 Owes (Reads (reading.Run options)) input output ending = IsRunOutput options.output options.form input output ending
@@ -282,7 +281,7 @@ GoesPast _ input output line = ⊥
 -- what is put whole where nothing fails: the output that is owed, or that of the lines before the one that goes past the end; and nothing for
 -- an input that is refused
 abbrev pub IsDue : Command → List ℕ → List ℕ → Type 0
-IsDue command input output = ((ending : Ending) × Owes command input output ending) ⊎ ((line : ℕ) × GoesPast command input output line)
+IsDue command input output = ((ending : CommandEnding) × Owes command input output ending) ⊎ ((line : ℕ) × GoesPast command input output line)
 
 -- A command refuses an input that has a fault, and tells it: a text at the line of its least fault, an image at the
 -- offset of its first. `flow --schedule` may also refuse a flow or a stream whose compiled set is not made. With

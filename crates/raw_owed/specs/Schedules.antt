@@ -17,8 +17,8 @@ use Rattle.raw_verdict.specs.LiveText.{no_cut_line}
 use Rattle.raw_inputs.specs.declared.flaw.LineKind.TheVariants.{Set}
 use Rattle.raw_inputs.specs.declared.flaw.Refusal.{Refusal}
 use Rattle.raw_inputs.specs.declared.flaw.Refusal.TheVariants.{Line}
-use Rattle.raw_shell.specs.declared.ending.Ending.{Ending}
-use Rattle.raw_shell.specs.declared.ending.Ending.TheVariants.{Done, Unproved}
+use Rattle.raw_shell.specs.declared.ending.CommandEnding.{CommandEnding}
+use Rattle.raw_shell.specs.declared.ending.CommandEnding.TheVariants.{Done, Unproved}
 use Rattle.raw_inputs.specs.Inputs.{HasStreamFault}
 
 -- the text is that of a stream: its second line with tokens says how many rows there are
@@ -47,7 +47,7 @@ IsSchedule true input set = IsStreamSchedule input set
 IsSchedule false input set = IsFlowSchedule input set
 
 -- `flow --schedule`: the listing of such a set
-pub record IsScheduleOutput (input output : List ℕ) (ending : Ending) : Type 0 where
+pub record IsScheduleOutput (input output : List ℕ) (ending : CommandEnding) : Type 0 where
   pub set : ProgramSet
   pub schedule : IsSchedule (is_stream_text input) input set
   pub written : output ≡ listing set
@@ -58,7 +58,7 @@ abbrev pub endless_text : Option ProgramSet → List ℕ
 endless_text None = no_cut_line
 endless_text (Some set) = listing set
 
-abbrev pub endless_ending : Option ProgramSet → Ending
+abbrev pub endless_ending : Option ProgramSet → CommandEnding
 endless_ending None = Unproved
 endless_ending (Some set) = Done
 
@@ -66,7 +66,7 @@ endless_ending (Some set) = Done
 -- ports of the stream, and it meets it row by row: for all numbers of rows from one number on up to a greater one, fed with so many rows of any
 -- words, some lawful list of its steps comes to rest, and each that does leaves in each sink what it is due of all rows, in order, but for some
 -- last words. The number of rows that the text says and the words that it feeds have no part in it
-pub record IsEndlessOutput (input output : List ℕ) (ending : Ending) : Type 0 where
+pub record IsEndlessOutput (input output : List ℕ) (ending : CommandEnding) : Type 0 where
   pub fed : FedStream
   pub meaning : StreamMeaning input fed
   pub found : Option ProgramSet

@@ -9,10 +9,10 @@ ghost use Rattle.raw_owed.specs.Obeyed.{Obeyed};
 use crate::answer::Answer;
 use raw_inputs::Failure;
 use raw_io::{Failed, Sink, put_all};
-use raw_shell::Ending;
+use raw_shell::CommandEnding;
 
 /// The answer of a command whose output was put, or a front of it, where it ends so once all is put.
-pub fn ended(put: Result<(), Failed>, ending: Ending) -> Answer
+pub fn ended(put: Result<(), Failed>, ending: CommandEnding) -> Answer
     ensures { (command : Command) (input text : List ℕ) (out : SinkSeen) → Writes out.old out.new text put →
         Owes command input text ending → Obeyed command input out result }
 {
@@ -24,8 +24,8 @@ pub fn ended(put: Result<(), Failed>, ending: Ending) -> Answer
 
 /// The output of a command that is done once it is put.
 pub fn put_output<K: Sink>(output: &[u8], out: &mut K) -> Answer
-    ensures { (command : Command) (input : List ℕ) → Owes command input output.now Ending.Done →
+    ensures { (command : Command) (input : List ℕ) → Owes command input output.now CommandEnding.Done →
         Obeyed command input (sink_seen K.sight out.old out.new) result }
 {
-    ended(put_all(out, output), Ending::Done)
+    ended(put_all(out, output), CommandEnding::Done)
 }

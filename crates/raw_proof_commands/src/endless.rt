@@ -10,7 +10,7 @@ use raw_inputs::{Failure, stream_in};
 use raw_io::Sink;
 use raw_owed::{Answer, ended, put_output};
 use raw_set_text::list_set;
-use raw_shell::Ending;
+use raw_shell::CommandEnding;
 use raw_stream_choice::choose_endless;
 use raw_text::MAX_TEXT;
 use raw_verdict::write_no_cut;
@@ -28,7 +28,7 @@ pub fn put_endless<K: Sink>(alloc: Global, input: Vec<u8>, out: &mut K) -> Answe
     };
     let set = match choose_endless(alloc, &read.stream) {
         Ok(Some(set)) => set,
-        Ok(None) => return ended(write_no_cut(out), Ending::Unproved),
+        Ok(None) => return ended(write_no_cut(out), CommandEnding::Unproved),
         Err(_) => return Err(Failure::Memory),
     };
     match list_set(alloc, &set) {

@@ -16,7 +16,7 @@ use raw_inputs::{Claimed, Failure, claim_in};
 use raw_io::Sink;
 use raw_owed::{Answer, ended};
 use raw_row_claim_text::{RowClaim, seat};
-use raw_shell::Ending;
+use raw_shell::CommandEnding;
 use raw_text::MAX_TEXT;
 use raw_verdict::{lacks_text, write_no_cut, write_proved_rows};
 use std::alloc::{AllocError, Global};
@@ -52,14 +52,14 @@ fn told_lacks(alloc: Global, lacks: &[u32], order: &[u32]) -> Result<Vec<u8>, Al
 
 // Puts for which numbers of rows a set is proved.
 fn put_extent<K: Sink>(alloc: Global, extent: &Extent, order: &[u32], out: &mut K) -> Answer
-    ensures { (input : List ℕ) → Owes (Reads ProveLive) input (live_text order.now (Some extent.now)) Ending.Done →
+    ensures { (input : List ℕ) → Owes (Reads ProveLive) input (live_text order.now (Some extent.now)) CommandEnding.Done →
         Obeyed (Reads ProveLive) input (sink_seen K.sight out.old out.new) result }
 {
     let Ok(lacks) = told_lacks(alloc, &extent.lacks, order) else {
         return Err(Failure::Memory);
     };
     let put = write_proved_rows(extent.least, extent.most, &lacks, out);
-    ended(put, Ending::Done)
+    ended(put, CommandEnding::Done)
 }
 
 // Says of a stream that is claimed of a set for which numbers of rows it is proved.
@@ -76,7 +76,7 @@ fn prove_rows<K: Sink>(alloc: Global, claim: RowClaim, out: &mut K) -> Answer
     };
     match prove_live(alloc, &mut set, &seated.stream) {
         Ok(Some(extent)) => put_extent(alloc, &extent, &seated.order, out),
-        Ok(None) => ended(write_no_cut(out), Ending::Unproved),
+        Ok(None) => ended(write_no_cut(out), CommandEnding::Unproved),
         Err(_) => Err(Failure::Memory),
     }
 }
@@ -86,7 +86,7 @@ fn put_no_cut<K: Sink>(claim: &Claim, out: &mut K) -> Answer
     ensures { (input : List ℕ) → IsFlowClaim input claim.now.set claim.now.flow claim.now.places.items →
         Obeyed (Reads ProveLive) input (sink_seen K.sight out.old out.new) result }
 {
-    ended(write_no_cut(out), Ending::Unproved)
+    ended(write_no_cut(out), CommandEnding::Unproved)
 }
 
 /// Says of the claim behind the set in an input for which numbers of rows it is proved.

@@ -18,20 +18,20 @@ use raw_model::Set;
 use raw_owed::{Answer, ended};
 use raw_refute::{Answer as Said, answer};
 use raw_set_text::list_feeds;
-use raw_shell::Ending;
+use raw_shell::CommandEnding;
 use raw_steady::{cycles_of, law_count, law_words};
 use raw_text::MAX_TEXT;
 use raw_verdict::write_answer;
 use std::alloc::{AllocError, Global};
 
 /// How the command ends with what is said of the claim.
-pub(crate) fn ending_with(said: &Said) -> Ending
+pub(crate) fn ending_with(said: &Said) -> CommandEnding
     ensures { result ≡ prove_ending said.now }
 {
     match said {
-        Said::Proved(_) | Said::ProvedByRows(_) => Ending::Done,
-        Said::Refuted { .. } => Ending::Refuted,
-        Said::Unproved(_) => Ending::Unproved,
+        Said::Proved(_) | Said::ProvedByRows(_) => CommandEnding::Done,
+        Said::Refuted { .. } => CommandEnding::Refuted,
+        Said::Unproved(_) => CommandEnding::Unproved,
     }
 }
 

@@ -10,17 +10,17 @@ use raw_inputs::Failure;
 use raw_io::Sink;
 use raw_model::Set;
 use raw_owed::{Answer, ended};
-use raw_shell::Ending;
+use raw_shell::CommandEnding;
 use raw_steadiness::{Steadiness, steady, write_steadiness};
 use std::alloc::Global;
 
 // How the command ends with what is said.
-fn ending_with(steadiness: Steadiness) -> Ending
+fn ending_with(steadiness: Steadiness) -> CommandEnding
     ensures { result ≡ steady_ending steadiness }
 {
     match steadiness {
-        Steadiness::Steady(_) => Ending::Done,
-        _ => Ending::Unproved,
+        Steadiness::Steady(_) => CommandEnding::Done,
+        _ => CommandEnding::Unproved,
     }
 }
 

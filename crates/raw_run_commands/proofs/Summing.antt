@@ -17,13 +17,14 @@ use Rattle.raw_model.specs.Program.{ProgramSet}
 use Rattle.raw_model.specs.Local.{Local, Tile, Switch, Source, Sink, PortLocal, steps_of}
 use Rattle.raw_model.specs.Start.{MachineState, start, Fits, IsFit}
 use Rattle.raw_model.specs.Rest.{end, IsQuiet, IsRun}
-use Rattle.raw_model.specs.Outcomes.{outcome}
+use Rattle.raw_model.specs.Outcomes.{outcome, ending_of}
 use Rattle.raw_model.specs.Laws.{ComesToRest}
 use Rattle.raw_model.specs.Parts.{got_by}
 use Rattle.raw_serial.specs.Leading.{Leads, LeadsBy}
 use Rattle.raw_generated.specs.Generated.{grid, generated}
 use Rattle.raw_generated.specs.Summary.{words_out, all_steps, summary_line, summary_of, summary}
-use Rattle.raw_shell.specs.Answers.{ending_of, ending_status}
+use Rattle.raw_shell.specs.declared.ending.CommandEnding.TheVariants.{Rested}
+use Rattle.raw_shell.specs.Answers.{ending_status}
 use Rattle.raw_owed.specs.Owed.{IsWorkOutput}
 use Rattle.raw_run_commands.proofs.Outputs.{same_ending}
 
@@ -114,14 +115,14 @@ module _ (n : ℕ) (ends : (h g : List ℕ) → ComesToRest (generated n) (start
       ∥∥₁_elim leads (is_set ℕ_set _ _) (λ led. ap (summary_of n) (led_end state steps led.0 quiet led.1 run))
 
   ended : (state : MachineState) (steps : List ℕ) → IsQuiet (generated n) state → Leads (generated n) (start (generated n)) state
-      → IsRun (generated n) steps → ending_of (outcome (generated n) state) ≡ ending_of (outcome (generated n) (end (generated n) steps))
+      → IsRun (generated n) steps → Rested (ending_of (outcome (generated n) state)) ≡ Rested (ending_of (outcome (generated n) (end (generated n) steps)))
   ended state steps quiet leads run =
       same_ending (ending_of (outcome (generated n) state)) (ending_of (outcome (generated n) (end (generated n) steps)))
-      (∥∥₁_elim leads (ℕ_set _ _) (λ led. ap (λ s. ending_status (ending_of (outcome (generated n) s))) (led_end state steps led.0 quiet led.1 run)))
+      (∥∥₁_elim leads (ℕ_set _ _) (λ led. ap (λ s. ending_status (Rested (ending_of (outcome (generated n) s)))) (led_end state steps led.0 quiet led.1 run)))
 
   -- a machine that came to rest gives the output of `work`
   pub work_output : (state : MachineState) (steps : List ℕ) → IsQuiet (generated n) state → Leads (generated n) (start (generated n)) state
-      → IsRun (generated n) steps → IsWorkOutput n (summary_of n state) (ending_of (outcome (generated n) state))
+      → IsRun (generated n) steps → IsWorkOutput n (summary_of n state) (Rested (ending_of (outcome (generated n) state)))
   work_output state steps quiet leads run = record {
     steps = steps;
     run = run;

@@ -14,7 +14,7 @@ use raw_io::{Sink, put_all};
 use raw_owed::{Answer, ended};
 use raw_report::Line;
 use raw_serial::{Machine, Wait};
-use raw_shell::Ending;
+use raw_shell::CommandEnding;
 use raw_steps::{CheckAnswer, Why, check_run};
 use std::alloc::Global;
 
@@ -88,12 +88,12 @@ fn answer_line(steps: &[ProcId], answer: CheckAnswer) -> Line
 }
 
 // How the command ends with an answer.
-fn ending_with(answer: CheckAnswer) -> Ending
+fn ending_with(answer: CheckAnswer) -> CommandEnding
     ensures { result ≡ check_ending answer }
 {
     match answer {
-        CheckAnswer::Lawful => Ending::Done,
-        CheckAnswer::Unlawful { .. } => Ending::Unlawful,
+        CheckAnswer::Lawful => CommandEnding::Done,
+        CheckAnswer::Unlawful { .. } => CommandEnding::Unlawful,
     }
 }
 

@@ -33,7 +33,7 @@ use raw_outcome::{Outcome, outcome};
 use raw_owed::{Answer, DEFAULT_TRACE_CYCLES, ended};
 use raw_path::{law_path, run_path, write_path};
 use raw_serial::Machine;
-use raw_shell::ending_of;
+use raw_shell::CommandEnding;
 use raw_text::{MAX_TEXT, Text};
 use raw_viewer::{write_head, write_tail};
 use std::alloc::{AllocError, Global};
@@ -96,7 +96,7 @@ pub fn run_cycles<K: Sink>(alloc: Global, set: &Set, options: CyclesOptions, out
     let outcome = outcome(&machine);
     ended(
         put_counts(&machine, outcome, &cycles, &lost, out),
-        ending_of(outcome),
+        CommandEnding::Rested(outcome.ending()),
     )
 }
 
@@ -118,7 +118,7 @@ pub fn put_path<K: Sink>(alloc: Global, set: &Set, form: SetForm, out: &mut K) -
     let outcome = outcome(&machine);
     ended(
         write_path(&machine, outcome, &path, out),
-        ending_of(outcome),
+        CommandEnding::Rested(outcome.ending()),
     )
 }
 
@@ -206,7 +206,7 @@ fn trace_set<K: Sink>(
     let most = u64::from(options.cycles.unwrap_or(DEFAULT_TRACE_CYCLES));
     ended(
         put_trace(opened, options.output, from, most, out),
-        ending_of(outcome),
+        CommandEnding::Rested(outcome.ending()),
     )
 }
 

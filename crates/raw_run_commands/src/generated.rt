@@ -21,7 +21,7 @@ use raw_outcome::outcome;
 use raw_owed::{Answer, ended};
 use raw_report::Line;
 use raw_serial::Machine;
-use raw_shell::ending_of;
+use raw_shell::CommandEnding;
 use raw_workers::{Gate, Parallelism, Workers, work};
 use std::alloc::Global;
 use std::rt::Clock;
@@ -118,5 +118,8 @@ pub fn run_generated<R: Threads + Clock + Sync, K: Sink, G: Gate>(
     let outcome = outcome(&machine);
     let word = outcome.word();
     let line = summary_line(n, word, words_out(&machine), all_steps(&machine));
-    ended(put_all(out, line.as_bytes()), ending_of(outcome))
+    ended(
+        put_all(out, line.as_bytes()),
+        CommandEnding::Rested(outcome.ending()),
+    )
 }

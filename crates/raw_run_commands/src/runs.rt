@@ -23,7 +23,7 @@ use raw_picture::write_picture;
 use raw_report::{write_history, write_report};
 use raw_serial::Machine;
 use raw_set_text::list_set;
-use raw_shell::ending_of;
+use raw_shell::CommandEnding;
 use raw_workers::{Gate, Parallelism, work, work_kept};
 use std::alloc::Global;
 use std::rt::Clock;
@@ -73,7 +73,7 @@ fn run_to_rest<R: Threads + Clock + Sync, K: Sink, G: Gate>(
     let outcome = outcome(&machine);
     ended(
         put_state(&machine, outcome, output, out),
-        ending_of(outcome),
+        CommandEnding::Rested(outcome.ending()),
     )
 }
 
@@ -110,7 +110,10 @@ fn run_history<R: Threads + Clock + Sync, K: Sink, G: Gate>(
         return Err(Failure::Memory);
     };
     let outcome = outcome(&kept.machine);
-    ended(put_history(&listing, &kept.steps, out), ending_of(outcome))
+    ended(
+        put_history(&listing, &kept.steps, out),
+        CommandEnding::Rested(outcome.ending()),
+    )
 }
 
 /// Runs a set to its rest, and puts of it what the options say.

@@ -1,35 +1,27 @@
 -- How a call of a program ended: its status, and its line on err.
 use Rattle.std.specs.Prelude.{ℕ, List, ◌++◌, codes, decimal, Result, Ok, Err}
-use Rattle.raw_model.specs.Outcomes.{Outcome}
-use Rattle.raw_model.specs.Outcomes.Outcome.{Done, Deadlock, Trapped, Limit, Stuck}
-use Rattle.raw_shell.specs.declared.ending.Ending.{Ending}
-use Rattle.raw_shell.specs.declared.ending.Ending.TheVariants as ending
+use Rattle.raw_model.specs.declared.ending.Ending.TheVariants as rest
+use Rattle.raw_shell.specs.declared.ending.CommandEnding.{CommandEnding}
+use Rattle.raw_shell.specs.declared.ending.CommandEnding.TheVariants.{Done, Rested, Unlawful, Unproved, Refuted}
 use Rattle.raw_shell.specs.declared.failure.Failure.{Failure}
 use Rattle.raw_shell.specs.declared.failure.Failure.TheVariants.{Use, Refused, ReadFault, WriteFault, Memory, TooLong}
 use Rattle.raw_shell.specs.Seen.{SinkSeen, Untouched, Says}
 
 -- how a call of a program ended: as a command ends that was done, or why it was not done
 abbrev pub Answer : Type 0 → Type 0
-Answer F = Result Ending (Failure F)
-
--- how a command ended whose grid came to rest so
-abbrev pub ending_of : Outcome → Ending
-ending_of Done = ending.Done
-ending_of (Deadlock p ps) = ending.Deadlock
-ending_of (Trapped p) = ending.Trapped
-ending_of (Limit p) = ending.Limit
-ending_of (Stuck p) = ending.Stuck
+Answer F = Result CommandEnding (Failure F)
 
 -- the status of a command that was done
-abbrev pub ending_status : Ending → ℕ
-ending_status ending.Done = 0
-ending_status ending.Deadlock = 3
-ending_status ending.Stuck = 4
-ending_status ending.Trapped = 5
-ending_status ending.Limit = 6
-ending_status ending.Unlawful = 11
-ending_status ending.Unproved = 12
-ending_status ending.Refuted = 13
+abbrev pub ending_status : CommandEnding → ℕ
+ending_status Done = 0
+ending_status (Rested rest.Done) = 0
+ending_status (Rested rest.Deadlock) = 3
+ending_status (Rested rest.Stuck) = 4
+ending_status (Rested rest.Trapped) = 5
+ending_status (Rested rest.Limit) = 6
+ending_status Unlawful = 11
+ending_status Unproved = 12
+ending_status Refuted = 13
 
 -- the status of a command that was not done
 abbrev pub failure_status : {F : Type 0} → Failure F → ℕ

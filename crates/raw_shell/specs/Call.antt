@@ -1,7 +1,7 @@
 -- A call of a program: the command that its words are, what was seen of its streams, and its status.
 use Rattle.std.specs.Prelude.{◌≡◌, ℕ, Option}
 use Rattle.raw_io.specs.Sights.{Sight, SourceSight}
-use Rattle.raw_shell.specs.declared.ending.Ending.{Ending}
+use Rattle.raw_shell.specs.declared.ending.CommandEnding.{CommandEnding}
 use Rattle.raw_shell.specs.Answers.{ending_status}
 use Rattle.raw_shell.specs.Seen.{Seen, seen}
 
@@ -21,5 +21,5 @@ call words source_sight source_old source_new out_sight out_old out_new err_sigh
 
 -- a status of a command that was done
 pub record IsEndingStatus (status : ℕ) : Type 0 where
-  pub ending : Ending
+  pub ending : CommandEnding
   pub status_is : status ≡ ending_status ending

@@ -10,7 +10,7 @@ mod opening;
 mod saying;
 
 pub use arguments::{FixedText, fixed_text, workers_of};
-pub use ending::{Ending, ending_of};
+pub use ending::CommandEnding;
 pub use failure::{Failure, Flaw};
 pub use gathered::Gathered;
 pub use opening::words_of;

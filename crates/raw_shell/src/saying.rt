@@ -6,7 +6,7 @@ ghost use Rattle.raw_shell.specs.Answers.{status_of, failure_status, err_line, r
 ghost use Rattle.raw_shell.specs.Seen.{sink_seen};
 ghost use Rattle.raw_shell.specs.Gathered.{behind, IsFirst};
 
-use crate::ending::Ending;
+use crate::ending::CommandEnding;
 use crate::failure::{Failure, Flaw};
 use crate::gathered::Gathered;
 use itoa::Buffer;
@@ -14,7 +14,7 @@ use raw_io::{Failed, Sink, put_each};
 use std::process::ExitCode;
 
 /// How a call of a program ended: how a command did that was done, or why it was not done.
-pub type Answer<F> = Result<Ending, Failure<F>>;
+pub type Answer<F> = Result<CommandEnding, Failure<F>>;
 
 /// Puts the line of a refusal: where, in words and as a number, and why.
 pub fn put_refused<E: Sink>(

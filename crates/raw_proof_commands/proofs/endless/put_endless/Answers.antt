@@ -1,7 +1,7 @@
 use Rattle.std.proofs.Common.{Option, Some, None, IfSome, refl, ◌∙◌, subst}
 use Rattle.raw_stream_text.specs.Streams.{FedStream}
 use Rattle.raw_stream_choice.specs.Endless.{IsEndlessChoice}
-use Rattle.raw_shell.specs.declared.ending.Ending.TheVariants.{Unproved}
+use Rattle.raw_shell.specs.declared.ending.CommandEnding.TheVariants.{Unproved}
 use Rattle.raw_shell.specs.Seen.{sink_seen}
 use Rattle.raw_verdict.specs.LiveText.{no_cut_line}
 use Rattle.raw_command_line.specs.declared.arguments.FlowSet.TheVariants.{Endless}

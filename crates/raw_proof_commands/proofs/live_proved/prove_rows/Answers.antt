@@ -2,7 +2,7 @@ use Rattle.std.proofs.Common.{ℕ, List, None, refl, sym, subst}
 use Rattle.raw_model.specs.Program.{ProgramSet}
 use Rattle.raw_stream.specs.Streams.{Stream}
 use Rattle.raw_stream_text.specs.Streams.{FedStream}
-use Rattle.raw_shell.specs.declared.ending.Ending.TheVariants.{Done, Unproved}
+use Rattle.raw_shell.specs.declared.ending.CommandEnding.TheVariants.{Done, Unproved}
 use Rattle.raw_shell.specs.Seen.{sink_seen}
 use Rattle.raw_row_claim_text.specs.Seats.{IsSeatedAs}
 use Rattle.raw_owed.specs.LiveOutputs.{IsRowsProvedLive, IsLiveOutputBy}

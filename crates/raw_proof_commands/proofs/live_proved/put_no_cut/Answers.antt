@@ -1,5 +1,5 @@
 use Rattle.std.proofs.Common.{ℕ, List, refl, sym, subst}
-use Rattle.raw_shell.specs.declared.ending.Ending.TheVariants.{Unproved}
+use Rattle.raw_shell.specs.declared.ending.CommandEnding.TheVariants.{Unproved}
 use Rattle.raw_shell.specs.Seen.{sink_seen}
 use Rattle.raw_owed.specs.LiveOutputs.{IsNotProvedLive, IsLiveOutputBy}
 use Rattle.raw_verdict.specs.LiveText.{no_cut_line}

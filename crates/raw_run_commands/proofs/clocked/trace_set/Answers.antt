@@ -3,12 +3,12 @@ use Rattle.std.specs.Prelude.{is_some}
 use Rattle.std.specs.Option.{unwrap_or}
 use Rattle.raw_io.specs.Writing.{Writes}
 use Rattle.raw_model.specs.Rest.{IsRun, end}
-use Rattle.raw_model.specs.Outcomes.{outcome}
+use Rattle.raw_model.specs.Outcomes.{outcome, ending_of}
 use Rattle.raw_model.specs.Waits.{waits_for}
 use Rattle.raw_clock.specs.Clock.{clock, clock_steps, machine_at}
 use Rattle.raw_trace.specs.Whole.{has_whole}
 use Rattle.raw_owed.specs.declared.limits.TheConstants.{DEFAULT_TRACE_CYCLES}
-use Rattle.raw_shell.specs.Answers.{ending_of}
+use Rattle.raw_shell.specs.declared.ending.CommandEnding.TheVariants.{Rested}
 use Rattle.raw_set_text.specs.Listing.{listing}
 use Rattle.raw_owed.specs.Owed.{sources_in}
 use Rattle.raw_owed.specs.Owed.{written_as, traced}
@@ -27,8 +27,8 @@ returns g c = λ input meaning told.
     let out = sink_seen g.K.Sink.sight c.args.out.now c.put_trace.new.out in
     let run : IsRun set (clock_steps set n) = c.law_clock.ensures.rests set n is.valid is.cycles in
     let there : machine_at (clock set n) ≡ end set (clock_steps set n) = sym (c.law_clock.ensures.at set n is.valid).there in
-    let ending : c.ending_of.result ≡ ending_of (outcome set (end set (clock_steps set n))) =
-    c.ending_of.ensures (waits_for set (machine_at (clock set n))) ∙ ap ending_of is.rest ∙ ap (λ s. ending_of (outcome set s)) there in
+    let rest : c.ending.result ≡ ending_of (outcome set (end set (clock_steps set n))) =
+    c.ending.ensures (waits_for set (machine_at (clock set n))) ∙ ap ending_of is.rest ∙ ap (λ s. ending_of (outcome set s)) there in
     let from : c.from-from.result ≡ unwrap_or options.from 0 = c.from-from.ensures ∙ c.unwrap_or.ensures in
     let most : c.from-most.result ≡ unwrap_or options.cycles DEFAULT_TRACE_CYCLES = c.from-most.ensures ∙ c.unwrap_or-2.ensures in
     let has = is_some opened.whole in
@@ -44,4 +44,4 @@ returns g c = λ input meaning told.
     ∙ ap (λ m. written_as options.output (listing set ++ sources) set (has_whole options.whole set n) n (unwrap_or options.from 0) m) most in
     c.ended.ensures (Reads (Trace options)) input (traced options sources set n) out
     (subst (λ t. Writes out.old out.new t c.put_trace.result) text c.put_trace.ensures)
-    (record { set = set; meaning = meaning; cycles = n; counted = is.cycles; run = run; written = refl; ended = ending })
+    (record { set = set; meaning = meaning; cycles = n; counted = is.cycles; run = run; written = refl; ended = ap Rested rest })

@@ -3,14 +3,14 @@ use Rattle.raw_io.specs.Writing.{Writes}
 use Rattle.raw_model.specs.Program.{IsSet}
 use Rattle.raw_model.specs.Start.{start}
 use Rattle.raw_model.specs.Rest.{IsQuiet}
-use Rattle.raw_model.specs.Outcomes.{outcome}
+use Rattle.raw_model.specs.Outcomes.{outcome, ending_of}
 use Rattle.raw_model.specs.StateTexts.{outcome_word}
 use Rattle.raw_model.specs.Waits.{waits_for}
 use Rattle.raw_serial.specs.Leading.{Leads}
 use Rattle.raw_outcome.specs.Told.{told}
 use Rattle.raw_generated.specs.Generated.{generated}
 use Rattle.raw_generated.specs.Summary.{words_out, summary_line, summary_of}
-use Rattle.raw_shell.specs.Answers.{ending_of}
+use Rattle.raw_shell.specs.declared.ending.CommandEnding.TheVariants.{Rested}
 use Rattle.raw_owed.specs.Owed.{IsWorkOutput}
 use Rattle.raw_shell.specs.Seen.{sink_seen}
 use Rattle.raw_command_line.specs.declared.arguments.AloneCommand.TheVariants.{Work}
@@ -43,10 +43,10 @@ returns g c =
     c.as_bytes.ensures ∙ c.summary_line-line.ensures (outcome gen m.state) word
     ∙ ap (λ words. summary_line n (outcome gen m.state) words c.all_steps.result) c.words_out.ensures
     ∙ ap (summary_line n (outcome gen m.state) (words_out m.state)) c.all_steps.ensures ∙ line_is n m.state in
-    let ending : c.ending_of.result ≡ ending_of (outcome gen m.state) =
-    c.ending_of.ensures (waits_for m.set m.state) ∙ ap ending_of how in
+    let rest : c.ending.result ≡ ending_of (outcome gen m.state) =
+    c.ending.ensures (waits_for m.set m.state) ∙ ap ending_of how in
     let out = sink_seen g.K.Sink.sight c.args.out.now c.put_all.new.sink in
     let put = c.put_all.ensures in
     let writes : Writes out.old out.new c.as_bytes.result.now c.put_all.result = record { ok = put.ok; front = put.front; fault = put.fault; count = put.count } in
     c.ended.ensures (Alone (Work n c.args.workers)) [] (summary_of n m.state) out (subst (λ t. Writes out.old out.new t c.put_all.result) text writes)
-    (subst (IsWorkOutput n (summary_of n m.state)) (sym ending) (work_output n ends m.state some.0 quiet leads some.1))
+    (subst (IsWorkOutput n (summary_of n m.state)) (ap Rested (sym rest)) (work_output n ends m.state some.0 quiet leads some.1))
