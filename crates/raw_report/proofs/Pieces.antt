@@ -19,7 +19,7 @@ history_text_of steps = ap (λ text. codes "history\n" ++ text) (flat_map-map (�
 -- it begins with its first line
 pub begins_so : (steps : List ProcId) → take (length (codes "history\n")) (history_text (map (λ p. p.0) steps)) ≡ codes "history\n"
 begins_so steps =
-    ap (take (length (codes "history\n"))) (text_of steps) ∙ take-append_seam (codes "history\n") (flat_map line_of_step steps)
+    ap (take (length (codes "history\n"))) (history_text_of steps) ∙ take-append_seam (codes "history\n") (flat_map line_of_step steps)
 
 -- it begins with the lines before a step and its line
 pub begins : (steps : List ProcId) (i : ℕ) (d : ProcId) → i < length steps
