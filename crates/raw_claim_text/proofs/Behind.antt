@@ -5,42 +5,28 @@ use Rattle.raw_answer.specs.OneAnswer.{HasOneAnswer}
 use Rattle.raw_model.specs.Program.{ProgramSet, IsSet}
 use Rattle.raw_set_text.specs.declared.kind.SetKind.{SetKind}
 use Rattle.raw_set_text.specs.declared.kind.SetKind.TheVariants.{Missing}
-use Rattle.raw_set_text.specs.declared.kind.SetRefusal.TheVariants.{At}
-use Rattle.raw_set_text.specs.Meaning.{IsMeaning, IsCause, HasLeastFault, MeansSet}
-use Rattle.raw_set_text.specs.Meaning as set
+use Rattle.raw_set_text.specs.Meaning.{IsMeaning, IsFault, IsOneSet}
 use Rattle.raw_claim_text.specs.Marked.{mark_in, FaultBefore, IsBehind, IsFaultBehind}
 
-module _ (one : (lines : List (List (List ℕ))) → set.HasOneAnswer lines) (word : List ℕ) (lines : List (List (List ℕ))) where
-  -- a set that lines mean keeps all that sets keep
-  set_lawful : (of : List (List (List ℕ))) (s : ProgramSet) → IsMeaning of s → IsSet s
-  set_lawful of s means =
-      ⊎_elim
-      (λ (other : MeansSet of). subst IsSet ((one of).one_set other.set s other.meaning means) other.valid)
-      (λ (least : HasLeastFault of). absurd ((one of).not_both s least.0 least.1 means least.2))
-      (one of).some
-
-  same_cause : (of : List (List (List ℕ))) (i j : ℕ) (a b : SetKind) → IsCause of (At i a) → IsCause of (At j b) → (i ≡ j) × (a ≡ b)
-  same_cause of i j a b x y = (x.1 ∙ ap (λ k. k + 1) ((one of).one_place x.0 y.0 a b x.2 y.2) ∙ sym y.1, (one of).one_kind x.0 y.0 a b x.2 y.2)
-
+module _ (one : (lines : List (List (List ℕ))) → IsOneSet lines) (word : List ℕ) (lines : List (List (List ℕ))) where
   -- there is one mark, and one set before it
   same_before : (p q : ℕ) (s t : ProgramSet) → mark_in word lines ≡ Some p → mark_in word lines ≡ Some q → IsMeaning (take p lines) s → IsMeaning (take q lines) t → (p ≡ q) × (s ≡ t)
   same_before p q s t x y a b =
       let place : p ≡ q = same_Some p q (sym x ∙ y) in
-      (place, (one (take q lines)).one_set s t (subst (λ k. IsMeaning (take k lines) s) place a) b)
+      (place, (one (take q lines)).one_meaning s t (subst (λ k. IsMeaning (take k lines) s) place a) b)
 
   -- the set has one fault, or the mark is missing, and then nothing is said
   one_before : (mark : Option ℕ) (i j : ℕ) (a b : SetKind) → FaultBefore mark lines i a → FaultBefore mark lines j b → (i ≡ j) × (a ≡ b)
-  one_before (Some place) i j a b x y = same_cause (take place lines) i j a b x y
-  one_before None i j a b (inl x) (inl y) = same_cause lines i j a b x y
-  one_before None i j a b (inl x) (inr y) = absurd ((one lines).not_both y.set x.0 a y.meaning x.2)
-  one_before None i j a b (inr x) (inl y) = absurd ((one lines).not_both x.set y.0 b x.meaning y.2)
+  one_before (Some place) i j a b x y = (one (take place lines)).one_fault i j a b x y
+  one_before None i j a b (inl x) (inl y) = (one lines).one_fault i j a b x y
+  one_before None i j a b (inl x) (inr y) = absurd ((one lines).not_both y.set i a y.meaning x)
+  one_before None i j a b (inr x) (inl y) = absurd ((one lines).not_both x.set j b x.meaning y)
   one_before None i j a b (inr x) (inr y) = (x.line_is ∙ sym y.line_is, x.kind_is ∙ sym y.kind_is)
 
   not_before : (mark : Option ℕ) (place : ℕ) (s : ProgramSet) (line : ℕ) (kind : SetKind) → mark ≡ Some place → IsMeaning (take place lines) s → FaultBefore mark lines line kind → ⊥
   not_before None place s line kind is means fault = none-some place is
   not_before (Some other) place s line kind is means fault =
-      let least = subst (λ k. IsCause (take k lines) (At line kind)) (same_Some other place is) fault in
-      (one (take place lines)).not_both s least.0 kind means least.2
+      (one (take place lines)).not_both s line kind means (subst (λ k. IsFault (take k lines) line kind) (same_Some other place is) fault)
 
   -- what is said, and what is wrong with it; a fault is one of the set, as a kind of these faults, or one of what is said
   module _ {T K : Type 0} (Tail : List (List (List ℕ)) → ℕ → ProgramSet → T → Type 0) (Wrong : List (List (List ℕ)) → ℕ → ProgramSet → ℕ → K → Type 0) (IsTail : ProgramSet → T → Type 0)
@@ -66,18 +52,18 @@ module _ (one : (lines : List (List (List ℕ))) → set.HasOneAnswer lines) (wo
       some_at : (mark : Option ℕ) → mark_in word lines ≡ mark → ((said : ProgramSet × T) × Means said) ⊎ Faulty
       some_at None is =
           ⊎_elim
-          (λ (means : MeansSet lines). inr (before None is (length lines + 1) Missing (inr (record { set = means.set; meaning = means.meaning; line_is = refl; kind_is = refl }))))
-          (λ (least : HasLeastFault lines). inr (before None is (least.0 + 1) least.1 (inl (least.0, refl, least.2))))
+          (λ (means : (s : ProgramSet) × IsMeaning lines s). inr (before None is (length lines + 1) Missing (inr (record { set = means.0; meaning = means.1; line_is = refl; kind_is = refl }))))
+          (λ (fault : (line : ℕ) × (kind : SetKind) × IsFault lines line kind). inr (before None is fault.0 fault.1 (inl fault.2)))
           (one lines).some
       some_at (Some place) is =
           ⊎_elim
-          (λ (means : MeansSet (take place lines)).
+          (λ (means : (s : ProgramSet) × IsMeaning (take place lines) s).
           ⊎_elim
-          (λ (tail : (x : T) × Tail lines place means.set x). inl ((means.set, tail.0), record { place = place; mark = is; set_is = means.meaning; tail_is = tail.1 }))
-          (λ (fault : (line : ℕ) × (kind : K) × Wrong lines place means.set line kind).
-          inr (fault.0, fault.1, of_tail fault.0 fault.1 (record { place = place; mark = is; set = means.set; set_is = means.meaning; wrong = fault.2 })))
-          (tails place means.set).some)
-          (λ (least : HasLeastFault (take place lines)). inr (before (Some place) is (least.0 + 1) least.1 (least.0, refl, least.2)))
+          (λ (tail : (x : T) × Tail lines place means.0 x). inl ((means.0, tail.0), record { place = place; mark = is; set_is = means.1; tail_is = tail.1 }))
+          (λ (fault : (line : ℕ) × (kind : K) × Wrong lines place means.0 line kind).
+          inr (fault.0, fault.1, of_tail fault.0 fault.1 (record { place = place; mark = is; set = means.0; set_is = means.1; wrong = fault.2 })))
+          (tails place means.0).some)
+          (λ (fault : (line : ℕ) × (kind : SetKind) × IsFault (take place lines) line kind). inr (before (Some place) is fault.0 fault.1 fault.2))
           (one (take place lines)).some
 
       one_meaning : (a b : ProgramSet × T) → Means a → Means b → a ≡ b
@@ -103,7 +89,7 @@ module _ (one : (lines : List (List (List ℕ))) → set.HasOneAnswer lines) (wo
       pub one_behind : HasOneAnswer Means Fault (λ (said : ProgramSet × T). IsSet said.0 × IsTail said.0 said.1)
       one_behind = record {
         some = some_at (mark_in word lines) refl;
-        valid = λ said x. (set_lawful (take x.place lines) said.0 x.set_is, (tails x.place said.0).valid said.1 x.tail_is);
+        valid = λ said x. ((one (take x.place lines)).valid said.0 x.set_is, (tails x.place said.0).valid said.1 x.tail_is);
         one_meaning = one_meaning;
         one_fault = λ i j a b x y. one_told i j a b (either i a x) (either j b y);
         not_both = λ said line kind x fault. not_told said line kind x (either line kind fault);

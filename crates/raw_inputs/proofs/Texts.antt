@@ -10,7 +10,7 @@ use Rattle.raw_model.specs.Program.{ProgramSet, IsSet}
 use Rattle.raw_set_text.specs.declared.kind.SetKind.{SetKind}
 use Rattle.raw_set_text.specs.declared.kind.SetKind.TheVariants.{NotAscii, LineTooLong, OverLimit}
 use Rattle.raw_set_text.specs.Meaning as set
-use Rattle.raw_set_text.specs.Texts.{Fault, HasMeaning, IsOneText, token_lines}
+use Rattle.raw_set_text.specs.Texts.{IsOneText, token_lines}
 use Rattle.raw_report.specs.History.{entries_of, IsBadEntry}
 use Rattle.raw_route.specs.Planned.{sendings}
 use Rattle.raw_route.specs.Laws as route
@@ -46,16 +46,7 @@ of_set {T} {Means} {Wrong} {IsValid} answer = record {
 
 -- ---- a set alone, a plan and a flow
 pub of_text : (input : List ℕ) → IsOneText input → IsOneSet form.Text input
-of_text input one = of_set (record {
-  some = ⊎_elim (λ (has : HasMeaning input). inl (has.set, has.meaning)) (λ (fault : (line : ℕ) × (kind : SetKind) × Fault input line kind). inr fault) one.some;
-  valid = λ set meaning.
-      ⊎_elim (λ (has : HasMeaning input). subst IsSet (one.one_set has.set set has.meaning meaning) has.valid)
-      (λ (fault : (line : ℕ) × (kind : SetKind) × Fault input line kind). absurd (one.not_both set fault.0 fault.1 meaning fault.2))
-      one.some;
-  one_meaning = one.one_set;
-  one_fault = λ i j a b x y. (one.one_line i j a b x y, one.one_kind i j a b x y);
-  not_both = one.not_both;
-})
+of_text input one = of_set one
 
 pub of_plan : (input : List ℕ) → IsOnePlanText input → route.EachIsSet → IsOneSet form.Plan input
 of_plan input one lawful =
@@ -80,7 +71,7 @@ bad_answer {T} Tail IsBad place why some one one_bad not_both = record {
   not_both = λ x line kind tail fault. not_both x fault.at tail fault.bad;
 }
 
-module _ (one : (lines : List (List (List ℕ))) → set.HasOneAnswer lines) (input : List ℕ) where
+module _ (one : (lines : List (List (List ℕ))) → set.IsOneSet lines) (input : List ℕ) where
   abbrev lines : List (List (List ℕ))
   lines = token_lines input
 

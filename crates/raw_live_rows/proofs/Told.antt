@@ -16,7 +16,7 @@ use Rattle.raw_model.specs.Local.{Local, Tile, Switch, Source, Sink, PortLocal}
 use Rattle.raw_model.specs.Start.{MachineState, Fits, IsFit, start}
 use Rattle.raw_model.specs.Rest.{IsRun, IsLawfulFrom, end, end_from}
 use Rattle.raw_model.specs.Parts.{got_of}
-use Rattle.raw_set_text.specs.Meaning.{IsMeaning, HasOneAnswer, MeansSet, HasLeastFault}
+use Rattle.raw_set_text.specs.Meaning.{IsMeaning, IsOneSet}
 use Rattle.raw_stream.specs.Streams.{Stream, first_words, due_to, rows_of}
 use Rattle.raw_rows.specs.Kernels.{AreRows, fed_rows, HasDue, IsMetBut}
 use Rattle.raw_cut.specs.Live.{IsMetFrom}
@@ -42,14 +42,14 @@ pub record LawsOfPuts : Type 0 where
   pub sources : (intake : Intake) (lines : List (List ℕ)) → AreForSources intake (fed intake lines).items
   pub room : (intake : Intake) (lines : List (List ℕ)) → length (fed intake lines).items ≤ intake.room
 
-module _ (laws : LawsOfPuts) (one : (lines : List (List (List ℕ))) → HasOneAnswer lines) where
+module _ (laws : LawsOfPuts) (one : (lines : List (List (List ℕ))) → IsOneSet lines) where
   -- lines say one set, with one list of words
   module _ (lines : List (List ℕ)) (a b : SaysWords lines) where
     same_place : a.place ≡ b.place
     same_place = let same : a.place + 1 ≡ b.place + 1 = cc (a.mark, b.mark) in omega (arith, same)
 
     same_first : a.first ≡ b.first
-    same_first = (one (map tokens_of (take b.place lines))).one_set a.first b.first (subst (λ n. IsMeaning (map tokens_of (take n lines)) a.first) same_place a.meaning) b.meaning
+    same_first = (one (map tokens_of (take b.place lines))).one_meaning a.first b.first (subst (λ n. IsMeaning (map tokens_of (take n lines)) a.first) same_place a.meaning) b.meaning
 
     same_put : put_by a ≡ put_by b
     same_put =
@@ -62,13 +62,10 @@ module _ (laws : LawsOfPuts) (one : (lines : List (List (List ℕ))) → HasOneA
 
   -- it is a set
   pub fed_valid : (lines : List (List ℕ)) (a : SaysWords lines) → IsSet (fed_set a)
-  fed_valid lines a = by (one (map tokens_of (take a.place lines))).some where
-    by : MeansSet (map tokens_of (take a.place lines)) ⊎ HasLeastFault (map tokens_of (take a.place lines)) → IsSet (fed_set a)
-    by (inl means) =
-        let same : means.set ≡ a.first = (one (map tokens_of (take a.place lines))).one_set means.set a.first means.meaning a.meaning in
-        items_valid a.intake a.first (put_by a).items a.intake_is.places a.intake_is.first_port (subst IsSet same means.valid) (laws.sources a.intake (drop (a.place + 1) lines))
-        (omega (arith, a.intake_is.room, laws.room a.intake (drop (a.place + 1) lines)))
-    by (inr fault) = absurd ((one (map tokens_of (take a.place lines))).not_both a.first fault.0 fault.1 a.meaning fault.2)
+  fed_valid lines a =
+      let valid : IsSet a.first = (one (map tokens_of (take a.place lines))).valid a.first a.meaning in
+      items_valid a.intake a.first (put_by a).items a.intake_is.places a.intake_is.first_port valid (laws.sources a.intake (drop (a.place + 1) lines))
+      (omega (arith, a.intake_is.room, laws.room a.intake (drop (a.place + 1) lines)))
 
 -- ---- sinks
 
@@ -98,7 +95,7 @@ pub record LawsOfFits : Type 0 where
 
 -- ---- what was told
 
-module _ (laws : LawsOfPuts) (one : (lines : List (List (List ℕ))) → HasOneAnswer lines) (fits : LawsOfFits) (few_procs : (t : Topology) → IsTopology t → proc_count t ≤ MAX_PROCS) where
+module _ (laws : LawsOfPuts) (one : (lines : List (List (List ℕ))) → IsOneSet lines) (fits : LawsOfFits) (few_procs : (t : Topology) → IsTopology t → proc_count t ≤ MAX_PROCS) where
   module _ (set : ProgramSet) (s : Stream) (lacks : List ℕ) (rows : List (List ℕ)) (met : IsMetBut set s lacks rows) (valid : IsSet (fed_rows set s rows))
       (text : List ℕ) (h : List ℕ) (run : IsRun (fed_rows set s rows) h)
       (says : (port : ℕ) → port < 2 ^ 32 → gots text port ≡ got_at (end (fed_rows set s rows) h) port) where

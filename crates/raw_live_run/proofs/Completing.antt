@@ -8,7 +8,7 @@ use Rattle.raw_text.specs.declared.lines.TextRefusal.TheVariants as refusal
 use Rattle.raw_text.specs.Lines.{lines_of, tokens_of, line_fault}
 use Rattle.raw_text.specs.Text.{is_word}
 use Rattle.raw_model.specs.Program.{ProgramSet}
-use Rattle.raw_set_text.specs.Meaning.{IsMeaning, HasOneAnswer}
+use Rattle.raw_set_text.specs.Meaning.{IsMeaning, IsOneSet}
 use Rattle.raw_set_text.specs.Texts.{token_lines}
 use Rattle.raw_live_text.specs.declared.head.HeadEnd.{HeadEnd}
 use Rattle.raw_live_text.specs.declared.head.HeadEnd.TheVariants.{Open, Mark, Fault}
@@ -68,7 +68,7 @@ mark_within number n (line ∷ lines) e = by_end (line_end number line) refl (ma
     by_end (Mark at) is behind e = let here = end_mark number at line is in let same : at ≡ n = cc e in (omega (arith, here, same), omega (arith, here, same))
     by_end (Fault at kind) is behind e = absurd (cc e)
 
-module _ (laws : LawsOfLines) (one : (lines : List (List (List ℕ))) → HasOneAnswer lines) (source : SourceSeen) (out : SinkSeen) (input : List ℕ) (set : ProgramSet) (told : source.old.left ≡ Some input)
+module _ (laws : LawsOfLines) (one : (lines : List (List (List ℕ))) → IsOneSet lines) (source : SourceSeen) (out : SinkSeen) (input : List ℕ) (set : ProgramSet) (told : source.old.left ≡ Some input)
     (live : Live input set) (few : length input ≤ limit) (no_read : ReadFails source → ⊥) (no_write : WriteFails out → ⊥) where
   abbrev lines : List (List ℕ)
   lines = lines_of input
@@ -101,7 +101,7 @@ module _ (laws : LawsOfLines) (one : (lines : List (List (List ℕ))) → HasOne
     first_is : says.first ≡ live.says.first
     first_is =
         let front : take live.says.place lines ≡ take says.place read = ap (λ n. take n lines) place_is ∙ ap (take says.place) is ∙ take-append-le says.place read back (omega (arith, within)) in
-        (one (map tokens_of (take says.place read))).one_set says.first live.says.first says.meaning (subst (λ l. IsMeaning (map tokens_of l) live.says.first) front live.says.meaning)
+        (one (map tokens_of (take says.place read))).one_meaning says.first live.says.first says.meaning (subst (λ l. IsMeaning (map tokens_of l) live.says.first) front live.says.meaning)
 
     intake_is : IsIntakeOf live.says.first says.intake
     intake_is = subst (λ s. IsIntakeOf s says.intake) first_is says.intake_is
@@ -144,7 +144,7 @@ module _ (laws : LawsOfLines) (one : (lines : List (List (List ℕ))) → HasOne
         let all : lines ≡ (front ++ f.marked.mark ∷ []) ++ b.0 = b.1 ∙ sym (append_assoc front (f.marked.mark ∷ []) b.0) in
         let place : live.says.place ≡ length front = same_place (front ++ f.marked.mark ∷ []) b.0 (length front) all f.marked.first in
         let before : take live.says.place lines ≡ front = ap (λ n. take n lines) place ∙ ap (take (length front)) b.1 ∙ take_front front (f.marked.mark ∷ b.0) in
-        (one (token_lines f.text)).not_both live.says.first f.cause.0 kind (subst (λ l. IsMeaning (map tokens_of l) live.says.first) before live.says.meaning) f.cause.2
+        (one (token_lines f.text)).not_both live.says.first line kind (subst (λ l. IsMeaning (map tokens_of l) live.says.first) before live.says.meaning) f.cause
 
     no_missing : (line : ℕ) (kind : SetKind) → FaultWithoutMark source.new.left bytes line kind → ⊥
     no_missing line kind f =
@@ -194,7 +194,7 @@ module _ (laws : LawsOfLines) (one : (lines : List (List (List ℕ))) → HasOne
   served answer (inr (inl gives)) = inr (ap status_of gives.answer_is)
   served answer (inr (inr r)) = behind_head answer r
 
-pub is_complete : (laws : LawsOfLines) (one : (lines : List (List (List ℕ))) → HasOneAnswer lines) (call : Call) → Ended call → IsComplete call
+pub is_complete : (laws : LawsOfLines) (one : (lines : List (List (List ℕ))) → IsOneSet lines) (call : Call) → Ended call → IsComplete call
 is_complete laws one call ended = λ workers input set is told live few no_read no_write.
     let fed = is_fed laws call ended workers input is told in
     subst (Served laws one call.seen.source call.seen.out input set told live few no_read no_write) (sym fed.status_is)

@@ -1,5 +1,4 @@
 -- What lines mean keeps all that sets keep, and they have one answer.
-pub mod Texts
 pub mod Lists
 pub mod Entries
 pub mod Ports

@@ -1,5 +1,7 @@
 -- What the lines of a set mean, and their least fault: statements about all lines at once.
-use Rattle.std.specs.Prelude.{◌≡◌, ◌⊎◌, ℕ, ◌+◌, ◌<◌, ◌≤◌, List, length, Option, Some, None, nat_lt, if◌then◌else◌}
+use Rattle.std.specs.Prelude.{◌≡◌, ℕ, ◌<◌, List, length, Option, None, nat_lt, if◌then◌else◌}
+use Rattle.raw_answer.specs.OneAnswer.{HasOneAnswer}
+use Rattle.raw_answer.specs.Places.{IsLeastFrom}
 use Rattle.raw_model.specs.Program.{ProgramSet, IsSet}
 use Rattle.raw_set_text.specs.declared.kind.SetKind.{SetKind}
 use Rattle.raw_set_text.specs.declared.kind.SetRefusal.{SetRefusal}
@@ -22,31 +24,15 @@ pub record IsMeaning (lines : List (List (List ℕ))) (set : ProgramSet) : Type 
 abbrev pub place_fault : List (List (List ℕ)) → ℕ → Option SetKind
 place_fault lines k = if nat_lt k (length lines) then fault_at lines k else end_fault lines
 
--- the place k has this fault, and no line before it has any; the place behind the last line is one too
-pub record IsLeastFault (lines : List (List (List ℕ))) (k : ℕ) (kind : SetKind) : Type 0 where
-  pub within : k ≤ length lines
-  pub here : place_fault lines k ≡ Some kind
-  pub before : AreFaultless lines k
+-- the least faulty line, counted from 1, and its fault; the place behind the last line is one too
+abbrev pub IsFault : List (List (List ℕ)) → ℕ → SetKind → Type 0
+IsFault lines line kind = IsLeastFrom (place_fault lines) (length lines) 0 line kind
 
--- some place is the least faulty one
-abbrev pub HasLeastFault : List (List (List ℕ)) → Type 0
-HasLeastFault lines = (k : ℕ) × (kind : SetKind) × IsLeastFault lines k kind
-
--- a refusal names the least faulty line, counted from 1, and its fault, or is want of memory
+-- a refusal names the least faulty line and its fault, or is want of memory
 abbrev pub IsCause : List (List (List ℕ)) → SetRefusal → Type 0
-IsCause lines (At line kind) = (k : ℕ) × (line ≡ k + 1) × IsLeastFault lines k kind
+IsCause lines (At line kind) = IsFault lines line kind
 IsCause lines Memory = Unit {0}
 
--- a set that the lines mean, which keeps all that sets keep
-pub record MeansSet (lines : List (List (List ℕ))) : Type 0 where
-  pub set : ProgramSet
-  pub meaning : IsMeaning lines set
-  pub valid : IsSet set
-
--- the lines mean exactly one set or have exactly one least fault, and not both
-pub record HasOneAnswer (lines : List (List (List ℕ))) : Type 0 where
-  pub some : MeansSet lines ⊎ HasLeastFault lines
-  pub one_set : (a b : ProgramSet) → IsMeaning lines a → IsMeaning lines b → a ≡ b
-  pub one_place : (j k : ℕ) (a b : SetKind) → IsLeastFault lines j a → IsLeastFault lines k b → j ≡ k
-  pub one_kind : (j k : ℕ) (a b : SetKind) → IsLeastFault lines j a → IsLeastFault lines k b → a ≡ b
-  pub not_both : (set : ProgramSet) (k : ℕ) (kind : SetKind) → IsMeaning lines set → IsLeastFault lines k kind → ⊥
+-- the lines mean exactly one set, which keeps all that sets keep, or have exactly one least fault, and not both
+abbrev pub IsOneSet : List (List (List ℕ)) → Type 0
+IsOneSet lines = HasOneAnswer (IsMeaning lines) (IsFault lines) IsSet

@@ -2,7 +2,7 @@
 ghost use Rattle.std.specs.Prelude.{◌≡◌, ℕ, ◌≤◌, List, length};
 ghost use Rattle.raw_text.specs.Lines.{written_lines};
 ghost use Rattle.raw_model.specs.Program.{ProgramSet, IsSet};
-ghost use Rattle.raw_set_text.specs.Meaning.{IsMeaning, HasOneAnswer};
+ghost use Rattle.raw_set_text.specs.Meaning.{IsMeaning, IsOneSet};
 ghost use Rattle.raw_set_text.specs.Listing.{listing};
 ghost use Rattle.raw_set_text.specs.Texts.{Meaning, IsOneText};
 ghost use Rattle.raw_set_text.specs.Worked.{worked_set, worked_lines};
@@ -11,7 +11,7 @@ use raw_text::MAX_TEXT;
 
 /// Lines mean exactly one set, which keeps all that sets keep, or have exactly one least fault, and not both.
 pub fn law_one_answer()
-    ensures { (lines : List (List (List ℕ))) → HasOneAnswer lines }
+    ensures { (lines : List (List (List ℕ))) → IsOneSet lines }
 {
     raw_tile_asm::law_lawful();
     raw_switch_asm::law_lawful();
@@ -28,8 +28,7 @@ pub fn law_one_text()
 pub(crate) fn law_lawful()
     ensures { (lines : List (List (List ℕ))) (set : ProgramSet) → IsMeaning lines set → IsSet set }
 {
-    raw_tile_asm::law_lawful();
-    raw_switch_asm::law_lawful();
+    law_one_answer();
 }
 
 /// The listing of a set means the set: it is a text without a fault whose lines mean the set.

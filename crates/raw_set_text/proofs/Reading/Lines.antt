@@ -54,7 +54,7 @@ module _ (lines : List (List (List ℕ))) where
 
   -- a refusal by the fault of the line
   pub cause_of : (k : ℕ) (refusal : LineRefusal) (fault : Option SetKind) → AreFaultless lines k → k < length lines → fault_at lines k ≡ fault → Names refusal fault → IsCause lines (located k refusal)
-  cause_of k (Fault kind) fault before lt e answer = (k, refl, least_here lines k kind before lt (e ∙ answer))
+  cause_of k (Fault kind) fault before lt e answer = (k, omega arith, least_here lines k kind before lt (e ∙ answer))
   cause_of k Memory fault before lt e answer = tt
 
   pub cause_outside : (k : ℕ) (entries : List Entry) (refusal : LineRefusal) → IsRead lines k entries → k < length lines → Names refusal (line_fault entries (get_or lines k [])) → IsCause lines (located k refusal)
@@ -64,7 +64,7 @@ module _ (lines : List (List (List ℕ))) where
   pub few_lines : (entries : List Entry) → IsRead lines (length lines) entries → length entries < 2 → IsCause lines (located (length lines) (Fault Missing))
   unfolding end_fault
   few_lines entries r few =
-      (length lines, refl, least_behind lines Missing r.faultless (rw (r.outside, r.entries_are, lt-ltb (length entries) 2 few) refl))
+      (length lines, omega arith, least_behind lines Missing r.faultless (rw (r.outside, r.entries_are, lt-ltb (length entries) 2 few) refl))
 
   -- all lines are read
   pub meaning_read : (entries : List Entry) → IsRead lines (length lines) entries → due_word entries ≡ None → IsMeaning lines (set_of entries)
@@ -84,7 +84,7 @@ module _ (lines : List (List (List ℕ))) where
     fault_is entry some is = fault_outside lines k at.entries at.read.outside at.read.entries_are ∙ later_line at.entries (get_or lines k []) entry at.stands.begun some is
 
     pub refused_form : (refusal : LineRefusal) → 0 < length (get_or lines k []) → ReadsAs (Err refusal) (line_entry (get_or lines k [])) → IsCause lines (located k refusal)
-    refused_form (Fault kind) some read = (k, refl, least_here lines k kind at.read.faultless lt (fault_is None some read.1 ∙ ap Some (sym read.0)))
+    refused_form (Fault kind) some read = (k, omega arith, least_here lines k kind at.read.faultless lt (fault_is None some read.1 ∙ ap Some (sym read.0)))
     refused_form Memory some read = tt
 
     pub refused_entry : (refusal : LineRefusal) (entry : Entry) → 0 < length (get_or lines k []) → line_entry (get_or lines k []) ≡ Some entry → Names refusal (entry_fault at.entries entry) → IsCause lines (located k refusal)

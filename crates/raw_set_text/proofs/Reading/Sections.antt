@@ -66,7 +66,7 @@ module _ {I : Type 0} (language : Language I) (lines : List (List (List ℕ))) (
   refused_inside : (refusal : AsmRefusal) → IsSectionCause language (section_of lines head) (head + 1) refusal → IsCause lines (of_section refusal)
   refused_inside (asm.At line kind) cause =
       let least = cause.2 in
-      (head + 1 + cause.0, cause.1, least_inside lines head entries entry h.read h.here h.says h.opens h.fine cause.0 (Asm kind) least.within (λ i below. none_at i (least.before i below)) (h.faults cause.0 ∙ ap (option_map Asm) least.here))
+      (head + 1 + cause.0, omega (arith, cause.1), least_inside lines head entries entry h.read h.here h.says h.opens h.fine cause.0 (Asm kind) least.within (λ i below. none_at i (least.before i below)) (h.faults cause.0 ∙ ap (option_map Asm) least.here))
   refused_inside asm.Memory cause = tt
 
   pub refused_section : (refusal : AsmRefusal) → IsSectionCause language (slice_range all (head + 1) end) (head + 1) refusal → IsCause lines (of_section refusal)
@@ -86,7 +86,7 @@ module _ {I : Type 0} (language : Language I) (lines : List (List (List ℕ))) (
     within = section_within lines head entries entry h.read h.here h.says h.opens
 
     pub open_section : end ≡ length lines → IsCause lines (located (length lines) (Fault Missing))
-    open_section last = (length lines, refl, open_least lines head entries entry h.read h.here h.says h.opens h.fine each (make code) is_whole (omega (arith, there, last)))
+    open_section last = (length lines, omega arith, open_least lines head entries entry h.read h.here h.says h.opens h.fine each (make code) is_whole (omega (arith, there, last)))
 
     pub passed_section : end ≢ length lines → entry_fault entries (make code) ≡ None → IsRead lines (end + 1) (entries ++ make code ∷ [])
     passed_section more none =
@@ -94,7 +94,7 @@ module _ {I : Type 0} (language : Language I) (lines : List (List (List ℕ))) (
 
     pub refused_end : end ≢ length lines → (refusal : LineRefusal) → Names refusal (entry_fault entries (make code)) → IsCause lines (located end refusal)
     refused_end more (Fault kind) names =
-        (end, refl, rw there (section_least lines head entries entry h.read h.here h.says h.opens h.fine each (make code) is_whole kind (omega (arith, there, more, within)) names))
+        (end, omega arith, rw there (section_least lines head entries entry h.read h.here h.says h.opens h.fine each (make code) is_whole kind (omega (arith, there, more, within)) names))
     refused_end more Memory names = tt
 
 -- a line that declares something has a token

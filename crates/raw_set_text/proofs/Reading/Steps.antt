@@ -3,13 +3,14 @@ use Rattle.std.proofs.Common.{◌≡◌, ℕ, zero, suc, ◌+◌, ◌-◌, ◌<�
 use Rattle.std.specs.List.{position_or_len}
 use Rattle.std.proofs.lemmas.Bool.{cases_lt, lt-ltb, le-ltb}
 use Rattle.std.proofs.lemmas.List.Sums.{fails_before_first, passes_at_first, prefix_len-le-length}
+use Rattle.raw_answer.specs.Places.{IsLeast}
 use Rattle.raw_set_text.specs.declared.kind.SetKind.{SetKind}
 use Rattle.raw_set_text.specs.declared.kind.SetKind.TheVariants.{Missing}
 use Rattle.raw_set_text.specs.Entry.{Entry}
 use Rattle.raw_set_text.specs.Forms.{line_entry, word_named}
 use Rattle.raw_set_text.specs.Faults.{line_fault, entry_fault}
 use Rattle.raw_set_text.specs.Sections.{is_section, is_end, head_of, head_behind, section_of, section_entry, section_fault, declared_at, entries_before, fault_at, end_fault}
-use Rattle.raw_set_text.specs.Meaning.{AreFaultless, IsLeastFault}
+use Rattle.raw_set_text.specs.Meaning.{AreFaultless, place_fault}
 use Rattle.raw_set_text.specs.Reading.{IsRead}
 
 pub no_length : {A : Type 0} (xs : List A) → length xs ≡ 0 → xs ≡ []
@@ -66,11 +67,14 @@ module _ (lines : List (List (List ℕ))) where
   }
 
   -- a line with a fault behind lines without one
-  pub least_here : (k : ℕ) (kind : SetKind) → AreFaultless lines k → k < length lines → fault_at lines k ≡ Some kind → IsLeastFault lines k kind
-  least_here k kind before lt here = record { within = omega arith; here = rw (lt-ltb k (length lines) lt) here; before = before }
+  places_before : (k : ℕ) → k ≤ length lines → AreFaultless lines k → (j : ℕ) → j < k → place_fault lines j ≡ None
+  places_before k l before j below = rw (lt-ltb j (length lines) (omega (arith, below, l))) (before j below)
 
-  pub least_behind : (kind : SetKind) → AreFaultless lines (length lines) → end_fault lines ≡ Some kind → IsLeastFault lines (length lines) kind
-  least_behind kind before here = record { within = omega arith; here = rw (le-ltb (length lines) (length lines) (omega arith)) here; before = before }
+  pub least_here : (k : ℕ) (kind : SetKind) → AreFaultless lines k → k < length lines → fault_at lines k ≡ Some kind → IsLeast (place_fault lines) (length lines) k kind
+  least_here k kind before lt here = record { within = omega arith; here = rw (lt-ltb k (length lines) lt) here; before = places_before k (omega (arith, lt)) before }
+
+  pub least_behind : (kind : SetKind) → AreFaultless lines (length lines) → end_fault lines ≡ Some kind → IsLeast (place_fault lines) (length lines) (length lines) kind
+  least_behind kind before here = record { within = omega arith; here = rw (le-ltb (length lines) (length lines) (omega arith)) here; before = places_before (length lines) (omega arith) before }
 
   -- a section
   module _ (head : ℕ) (entries : List Entry) (entry : Entry) (r : IsRead lines head entries) (lt : head < length lines) (is : line_entry (get_or lines head []) ≡ Some entry)
@@ -127,7 +131,7 @@ module _ (lines : List (List (List ℕ))) where
           subst (AreFaultless lines) next (faultless_next (head + 1 + n) before (fault_inside n (omega (arith, le)) ∙ each n (omega arith)))
 
       pub least_inside : (j : ℕ) (kind : SetKind) → j < length (section_of lines head) → ((i : ℕ) → i < j → section_fault entries (section_of lines head) i (Some entry) ≡ None)
-          → section_fault entries (section_of lines head) j (Some entry) ≡ Some kind → IsLeastFault lines (head + 1 + j) kind
+          → section_fault entries (section_of lines head) j (Some entry) ≡ Some kind → IsLeast (place_fault lines) (length lines) (head + 1 + j) kind
       least_inside j kind below before here =
           least_here (head + 1 + j) kind (faultless_inside j (omega (arith, below)) before) (let le = section_within in omega (arith, le, below)) (fault_inside j below ∙ here)
 
@@ -154,12 +158,12 @@ module _ (lines : List (List (List ℕ))) where
             }
 
         pub section_least : (kind : SetKind) → head + 1 + length (section_of lines head) < length lines → entry_fault entries whole ≡ Some kind
-            → IsLeastFault lines (head + 1 + length (section_of lines head)) kind
+            → IsLeast (place_fault lines) (length lines) (head + 1 + length (section_of lines head)) kind
         section_least kind more some =
             least_here (head + 1 + length (section_of lines head)) kind (faultless_inside (length (section_of lines head)) (omega arith) each) more (fault_ending more ∙ some)
 
         -- without an end something is missing behind the last line
-        pub open_least : length lines ≤ head + 1 + length (section_of lines head) → IsLeastFault lines (length lines) Missing
+        pub open_least : length lines ≤ head + 1 + length (section_of lines head) → IsLeast (place_fault lines) (length lines) (length lines) Missing
         unfolding end_fault
         open_least le =
             let within = section_within in
