@@ -103,8 +103,8 @@ fn either(first: bool, second: bool) -> bool
     first || second
 }
 
-// Gives a processor its turn, and counts the values that it sends on each wire.
-fn give(machine: &mut Machine<'_>, p: ProcId, passed: &mut [u64]) -> Turn
+// Gives a processor its turn, and counts the values that it sends on each wire. What `event` has before it is of no account.
+fn give(machine: &mut Machine<'_>, p: ProcId, event: &mut Event, passed: &mut [u64]) -> Turn
     requires there { p.0 < proc_count machine.old.set.topo }
     requires each { length passed.old ≡ length (wires_of machine.old.set.topo) }
     requires room { (w : ℕ) → slice_index passed.old w < 2 ^ 62 }
@@ -112,8 +112,7 @@ fn give(machine: &mut Machine<'_>, p: ProcId, passed: &mut [u64]) -> Turn
     ensures sent { AreSent result machine.old p.0 passed.old passed.new }
     ensures few { AreFewMore 10 passed.old passed.new }
 {
-    let mut event = Event::new();
-    match machine.try_step_telling(p, &mut event) {
+    match machine.try_step_telling(p, event) {
         Turn::Fired => {
             count_sent(&event.sent, passed);
             Turn::Fired
@@ -150,6 +149,7 @@ fn ask_other(machine: &Machine<'_>, account: &mut Account, p: ProcId, cycles: u6
 fn take_tile(
     machine: &mut Machine<'_>,
     account: &mut Account,
+    event: &mut Event,
     passed: &mut [u64],
     p: ProcId,
     cycles: u64,
@@ -172,7 +172,7 @@ fn take_tile(
     match account.turn(p) {
         Turn::Stopped => false,
         _ => {
-            let turn = give(machine, p, passed);
+            let turn = give(machine, p, event, passed);
             account.note(set, p, turn, cycles);
             goes(turn)
         }
@@ -180,7 +180,13 @@ fn take_tile(
 }
 
 // Gives a switch or a port its turn, if what was noted of it goes on, and says so.
-fn take_other(machine: &mut Machine<'_>, turn: Turn, passed: &mut [u64], p: ProcId) -> bool
+fn take_other(
+    machine: &mut Machine<'_>,
+    turn: Turn,
+    event: &mut Event,
+    passed: &mut [u64],
+    p: ProcId,
+) -> bool
     requires there { p.0 < proc_count machine.old.set.topo }
     requires each { length passed.old ≡ length (wires_of machine.old.set.topo) }
     requires room { (w : ℕ) → slice_index passed.old w < 2 ^ 62 }
@@ -190,7 +196,7 @@ fn take_other(machine: &mut Machine<'_>, turn: Turn, passed: &mut [u64], p: Proc
 {
     let goes_on = goes(turn);
     if goes_on {
-        give(machine, p, passed);
+        give(machine, p, event, passed);
     }
     goes_on
 }
@@ -237,13 +243,14 @@ fn take_all(
     ensures few { AreFewMore 2560 passed.old passed.new }
 {
     let tiles = machine.set().topo.tiles();
+    let mut event = Event::new();
     let mut some = false;
     'procs: for p in 0..machine.procs() {
         let proc = ProcId(p);
         let goes_on = if p < tiles {
-            take_tile(machine, account, passed, proc, cycles)
+            take_tile(machine, account, &mut event, passed, proc, cycles)
         } else {
-            take_other(machine, account.turn(proc), passed, proc)
+            take_other(machine, account.turn(proc), &mut event, passed, proc)
         };
         some = either(some, goes_on);
     }
