@@ -1,5 +1,5 @@
 -- Which command the words are.
-use Rattle.std.specs.Prelude.{ℕ, ◌≤◌, Bool, true, false, not, ◌&&◌, ◌||◌, List, [], ◌∷◌, codes, Option, Some, None, is_none, nat_le, if◌then◌else◌}
+use Rattle.std.specs.Prelude.{ℕ, Bool, true, false, not, ◌&&◌, ◌||◌, List, [], ◌∷◌, codes, Option, Some, None, is_none, nat_le, if◌then◌else◌}
 use Rattle.std.specs.Option.{option_map, option_and_then}
 use Rattle.std.specs.Str.{bytes_eq}
 use Rattle.raw_text.specs.Number.{number_of}
@@ -243,13 +243,3 @@ other_command (name ∷ words) = if bytes_eq name (codes "work") then work_of wo
 -- the command that the words are, or none where they are outside the lawful ones
 abbrev pub command_of : List (List ℕ) → Option Command
 command_of words = if asks_live_proof words then Some (Reads reading.ProveLive) else other_command words
-
--- the number of words of `work` is within its range
-abbrev pub IsWithinRange : AloneCommand → Type 0
-IsWithinRange (Fixed text) = Unit {0}
-IsWithinRange (Work n workers) = (1 ≤ n) × (n ≤ MAX_GENERATED_WORDS)
-
--- a command that reads has no numbers
-abbrev pub IsLawfulCommand : Command → Type 0
-IsLawfulCommand (Alone command) = IsWithinRange command
-IsLawfulCommand (Reads command) = Unit {0}

@@ -1,13 +1,13 @@
 //! The command that the words after the program's name are.
-ghost use Rattle.std.specs.Prelude.{◌≡◌, ◌&&◌, map, string_bytes, IfSome, is_none};
+ghost use Rattle.std.specs.Prelude.{◌≡◌, ◌&&◌, map, string_bytes, is_none};
 ghost use Rattle.std.specs.Option.{option_and_then};
 ghost use Rattle.raw_text.specs.Number.{number_of};
-ghost use Rattle.raw_command_line.specs.Arguments.{asks_live_proof, other_command, command_of, command_named, options_of, plain_option, takes_number, workers_option, cycles_option, number_option, said_once, with_option, with_first, form_said, made_said, endless_said, flow_set, is_whole, is_lost, is_endless, has_no_cycles, has_run_options_alone, unless_extra, run_of, cycles_of, trace_of, flow_of, without_options, work_on, work_of, IsLawfulCommand};
+ghost use Rattle.raw_command_line.specs.Arguments.{asks_live_proof, other_command, command_of, command_named, options_of, plain_option, takes_number, workers_option, cycles_option, number_option, said_once, with_option, with_first, form_said, made_said, endless_said, flow_set, is_whole, is_lost, is_endless, has_no_cycles, has_run_options_alone, unless_extra, run_of, cycles_of, trace_of, flow_of, without_options, work_on, work_of};
 ghost use Rattle.raw_command_line.specs.declared.arguments.Command.TheVariants.{Reads};
 
 use crate::limits::MAX_TRACE_CYCLES;
 use raw_fabric_rule::Workers;
-use raw_generated::MAX_GENERATED_WORDS;
+use raw_generated::GeneratedWords;
 use raw_shell::{FixedText, workers_of};
 use raw_text::number;
 
@@ -16,9 +16,9 @@ use raw_text::number;
 pub enum AloneCommand {
     /// Writes a fixed text.
     Fixed(FixedText),
-    /// Runs the generated set of so many words, 1 to 100,000, and writes one line on it.
+    /// Runs the generated set of so many words, and writes one line on it.
     Work {
-        words: u32,
+        words: GeneratedWords,
         /// How many workers run the grid, where the words of the command say it.
         workers: Option<Workers>,
     },
@@ -436,17 +436,14 @@ fn has_run_options_alone(said: Options) -> bool
 
 // A command, where no option is said that it does not take.
 fn unless_extra(free: bool, command: Command) -> Option<Command>
-    requires { IsLawfulCommand command }
-    ensures command { result ≡ unless_extra free command }
-    ensures range { IfSome result IsLawfulCommand }
+    ensures { result ≡ unless_extra free command }
 {
     if free { Some(command) } else { None }
 }
 
 // A run of which this is written. It takes the form of its set, and a number of workers.
 fn run_of(output: RunOutput, said: Options) -> Option<Command>
-    ensures command { result ≡ run_of output said }
-    ensures range { IfSome result IsLawfulCommand }
+    ensures { result ≡ run_of output said }
 {
     let options = RunOptions {
         output,
@@ -461,8 +458,7 @@ fn run_of(output: RunOutput, said: Options) -> Option<Command>
 
 // `cycles`. It takes the form of its set, and whether it has the lines of lost cycles.
 fn cycles_of(said: Options) -> Option<Command>
-    ensures command { result ≡ cycles_of said }
-    ensures range { IfSome result IsLawfulCommand }
+    ensures { result ≡ cycles_of said }
 {
     let options = CyclesOptions {
         form: form_said(said.form),
@@ -481,8 +477,7 @@ fn cycles_of(said: Options) -> Option<Command>
 
 // A trace or its page. It takes the form of its set, its first cycle, how many it has at most, and whether it has the whole run.
 fn trace_of(output: TraceOutput, said: Options) -> Option<Command>
-    ensures command { result ≡ trace_of output said }
-    ensures range { IfSome result IsLawfulCommand }
+    ensures { result ≡ trace_of output said }
 {
     let options = TraceOptions {
         output,
@@ -502,8 +497,7 @@ fn trace_of(output: TraceOutput, said: Options) -> Option<Command>
 
 // A command that takes the form of its set alone, with this form.
 fn with_form_alone(command: ReadingCommand, said: Options) -> Option<Command>
-    ensures command { result ≡ unless_extra (is_none said.workers && has_run_options_alone said) (Reads command) }
-    ensures range { IfSome result IsLawfulCommand }
+    ensures { result ≡ unless_extra (is_none said.workers && has_run_options_alone said) (Reads command) }
 {
     unless_extra(
         said.workers.is_none() && has_run_options_alone(said),
@@ -524,8 +518,7 @@ fn flow_set(made: Option<FlowSet>, more: Option<Extra>) -> Option<FlowSet>
 
 // `flow`. It takes which set is written of its flow.
 fn flow_of(said: Options) -> Option<Command>
-    ensures command { result ≡ flow_of said }
-    ensures range { IfSome result IsLawfulCommand }
+    ensures { result ≡ flow_of said }
 {
     match flow_set(said.made, said.more) {
         Some(set) => unless_extra(
@@ -541,9 +534,7 @@ fn flow_of(said: Options) -> Option<Command>
 
 // A command that takes no option.
 fn without_options(command: Command, said: Options) -> Option<Command>
-    requires { IsLawfulCommand command }
-    ensures command { result ≡ without_options command said }
-    ensures range { IfSome result IsLawfulCommand }
+    ensures { result ≡ without_options command said }
 {
     let free = said.form.is_none() && said.workers.is_none() && has_run_options_alone(said);
     unless_extra(free, command)
@@ -552,8 +543,7 @@ fn without_options(command: Command, said: Options) -> Option<Command>
 // The command of this name, with what its options say.
 #[tactic(auto, unfolding(crate::specs::Arguments::command_named))]
 fn command_named(name: &[u8], said: Options) -> Option<Command>
-    ensures command { result ≡ command_named name.now said }
-    ensures range { IfSome result IsLawfulCommand }
+    ensures { result ≡ command_named name.now said }
 {
     if name == "--help".as_bytes() {
         without_options(Command::Alone(AloneCommand::Fixed(FixedText::Help)), said)
@@ -605,22 +595,21 @@ fn command_named(name: &[u8], said: Options) -> Option<Command>
 
 // `work` on so many words. It takes a number of workers.
 fn work_on(said: Options, words: u32) -> Option<Command>
-    ensures command { result ≡ work_on said words }
-    ensures range { IfSome result IsLawfulCommand }
+    ensures { result ≡ work_on said words }
 {
-    if 1 <= words && words <= MAX_GENERATED_WORDS {
-        let workers = said.workers;
-        let work = Command::Alone(AloneCommand::Work { words, workers });
-        unless_extra(said.form.is_none() && has_run_options_alone(said), work)
-    } else {
-        None
+    match GeneratedWords::new(words) {
+        Some(words) => {
+            let workers = said.workers;
+            let work = Command::Alone(AloneCommand::Work { words, workers });
+            unless_extra(said.form.is_none() && has_run_options_alone(said), work)
+        }
+        None => None,
     }
 }
 
 // `work` on as many words as a number says, where it is one.
 fn work_said(said: Options, words: Option<u32>) -> Option<Command>
-    ensures command { result ≡ option_and_then (work_on said) words }
-    ensures range { IfSome result IsLawfulCommand }
+    ensures { result ≡ option_and_then (work_on said) words }
 {
     match words {
         Some(words) => work_on(said, words),
@@ -630,8 +619,7 @@ fn work_said(said: Options, words: Option<u32>) -> Option<Command>
 
 // `work` and the words behind it: a number, and then options.
 fn work_of(words: &[String]) -> Option<Command>
-    ensures command { result ≡ work_of (map string_bytes words.now) }
-    ensures range { IfSome result IsLawfulCommand }
+    ensures { result ≡ work_of (map string_bytes words.now) }
 {
     let Some((count, options)) = words.split_first() else {
         return None;
@@ -644,8 +632,7 @@ fn work_of(words: &[String]) -> Option<Command>
 
 // The command of this name with the options that these words are.
 fn named_with(name: &String, options: &[String]) -> Option<Command>
-    ensures command { result ≡ option_and_then (command_named (string_bytes name.now)) (options_of (map string_bytes options.now)) }
-    ensures range { IfSome result IsLawfulCommand }
+    ensures { result ≡ option_and_then (command_named (string_bytes name.now)) (options_of (map string_bytes options.now)) }
 {
     match options_of(options) {
         Some(said) => command_named(name.as_str().as_bytes(), said),
@@ -671,8 +658,7 @@ fn asks_live_proof(words: &[String]) -> bool
 
 // The command that words are which are not `prove --live`.
 fn other_command(words: &[String]) -> Option<Command>
-    ensures command { result ≡ other_command (map string_bytes words.now) }
-    ensures range { IfSome result IsLawfulCommand }
+    ensures { result ≡ other_command (map string_bytes words.now) }
 {
     match words.split_first() {
         Some((name, rest)) => {
@@ -688,8 +674,7 @@ fn other_command(words: &[String]) -> Option<Command>
 
 /// The command that the words are; None where they are none.
 pub fn command_in(words: &[String]) -> Option<Command>
-    ensures command { result ≡ command_of (map string_bytes words.now) }
-    ensures range { IfSome result IsLawfulCommand }
+    ensures { result ≡ command_of (map string_bytes words.now) }
 {
     if asks_live_proof(words) {
         Some(Command::Reads(ReadingCommand::ProveLive))

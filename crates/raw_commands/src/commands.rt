@@ -2,7 +2,6 @@
 ghost use Rattle.std.specs.Prelude.{◌≡◌, ◌≤◌, ℕ, List, [], length};
 ghost use Rattle.raw_owed.specs.Answers.{fixed_text_of, help_text, version_text};
 ghost use Rattle.raw_inputs.specs.Inputs.{whole, Means};
-ghost use Rattle.raw_command_line.specs.Arguments.{IsWithinRange};
 ghost use Rattle.raw_shell.specs.Seen.{sink_seen};
 ghost use Rattle.raw_owed.specs.Obeyed.{Obeyed};
 
@@ -163,7 +162,6 @@ pub fn obey_alone<R: Threads + Clock + Sync, K: Sink, G: Gate>(
     out: &mut K,
     gate: &G,
 ) -> Answer
-    requires { IsWithinRange command }
     ensures { Obeyed (Command.Alone command) []
         (sink_seen K.sight out.old out.new) result }
 {

@@ -1,9 +1,9 @@
 //! The top call: everything that the program does.
-ghost use Rattle.std.specs.Prelude.{◌≡◌, ◌≤◌, true, false, map, string_bytes, IfSome, IfOk, IfErr, length};
+ghost use Rattle.std.specs.Prelude.{◌≡◌, ◌≤◌, true, false, map, string_bytes, IfOk, IfErr, length};
 ghost use Rattle.raw_io.specs.Reading.{TakesFront};
 ghost use Rattle.raw_debug_live.specs.Words.{asks_live};
 ghost use Rattle.raw_debug_live.specs.Promises as live;
-ghost use Rattle.raw_command_line.specs.Arguments.{command_of, IsLawfulCommand};
+ghost use Rattle.raw_command_line.specs.Arguments.{command_of};
 ghost use Rattle.raw_shell.specs.Seen.{limit, seen, source_seen, sink_seen, ReadsWhole};
 ghost use Rattle.raw_shell.specs.Call.{call};
 ghost use Rattle.raw_commands.specs.Ended.{Answered, Performed, Ended, NotRead};
@@ -88,7 +88,6 @@ pub(crate) fn dispatch<R: Threads + Clock + Sync, S: Source, K: Sink, G: Gate>(
     out: &mut K,
     gate: &G,
 ) -> Answer
-    requires { IfSome command IsLawfulCommand }
     ensures { Answered command
         (source_seen S.sight source.old source.new)
         (sink_seen K.sight out.old out.new)
@@ -108,7 +107,6 @@ fn dispatch_command<R: Threads + Clock + Sync, S: Source, K: Sink, G: Gate>(
     out: &mut K,
     gate: &G,
 ) -> Answer
-    requires { IsLawfulCommand command }
     ensures { Performed command
         (source_seen S.sight source.old source.new)
         (sink_seen K.sight out.old out.new)

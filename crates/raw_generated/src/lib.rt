@@ -9,7 +9,9 @@ mod make;
 mod ports;
 mod switches;
 mod tiles;
+mod words;
 
 pub use laws::{law_generated, law_lines};
 pub use limits::MAX_GENERATED_WORDS;
 pub use make::make_set;
+pub use words::GeneratedWords;

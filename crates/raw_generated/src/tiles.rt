@@ -2,7 +2,6 @@
 ghost use Rattle.std.specs.Prelude.{◌≡◌, ◌≤◌, ◌++◌, length, IfOk, OnOk};
 ghost use Rattle.raw_generated.specs.Generated.{load, adding_code, tile_code, tile_program, tile_programs};
 
-use crate::limits::MAX_GENERATED_WORDS;
 use crate::switches::switch_code;
 use raw_model::TileProg;
 use raw_tile_isa::{NETWORK_1, TileIns, TileOp, li};
@@ -43,7 +42,6 @@ fn push_adding(code: &mut Vec<TileIns>, t: u16) -> Result<(), AllocError>
 
 // The program of a tile.
 fn tile_code(alloc: Global, n: u32, t: u16) -> Result<Vec<TileIns>, AllocError>
-    requires { n ≤ MAX_GENERATED_WORDS }
     ensures { IfOk result (λ code. code.items ≡ tile_code n t) }
 {
     let mut code = load(alloc, n)?;
@@ -53,7 +51,6 @@ fn tile_code(alloc: Global, n: u32, t: u16) -> Result<Vec<TileIns>, AllocError>
 
 // What a tile is given.
 fn tile_program(alloc: Global, n: u32, t: u16) -> Result<TileProg, AllocError>
-    requires { n ≤ MAX_GENERATED_WORDS }
     ensures { IfOk result (λ tile. tile ≡ tile_program n t) }
 {
     Ok(TileProg {
@@ -66,7 +63,6 @@ fn tile_program(alloc: Global, n: u32, t: u16) -> Result<TileProg, AllocError>
 
 /// What each tile is given.
 pub(crate) fn tile_programs(alloc: Global, n: u32) -> Result<Vec<TileProg>, AllocError>
-    requires { n ≤ MAX_GENERATED_WORDS }
     ensures { IfOk result (λ tiles. tiles.items ≡ tile_programs n) }
 {
     let mut tiles = Vec::new(alloc);

@@ -11,7 +11,7 @@ ghost use Rattle.raw_owed.specs.Obeyed.{Obeyed};
 ghost use Rattle.raw_command_line.specs.declared.arguments.AloneCommand.TheVariants.{Work};
 ghost use Rattle.raw_command_line.specs.declared.arguments.Command.TheVariants.{Alone};
 
-use raw_generated::{MAX_GENERATED_WORDS, law_generated, make_set};
+use raw_generated::{GeneratedWords, law_generated, make_set};
 use raw_grid::ProcId;
 use raw_inputs::Failure;
 use raw_io::{Sink, put_all};
@@ -95,13 +95,11 @@ fn words_out<'m>(m: &'m Machine<'_>) -> &'m [u32]
 pub fn run_generated<R: Threads + Clock + Sync, K: Sink, G: Gate>(
     rt: &R,
     alloc: Global,
-    n: u32,
+    n: GeneratedWords,
     workers: Option<Workers>,
     out: &mut K,
     gate: &G,
 ) -> Answer
-    requires some { 1 ≤ n }
-    requires few { n ≤ MAX_GENERATED_WORDS }
     ensures { Obeyed (Alone (Work n workers)) []
         (sink_seen K.sight out.old out.new) result }
 {
@@ -117,7 +115,7 @@ pub fn run_generated<R: Threads + Clock + Sync, K: Sink, G: Gate>(
     let machine = work(rt, alloc, fresh, Parallelism::of(workers), gate);
     let outcome = outcome(&machine);
     let word = outcome.word();
-    let line = summary_line(n, word, words_out(&machine), all_steps(&machine));
+    let line = summary_line(n.count(), word, words_out(&machine), all_steps(&machine));
     ended(
         put_all(out, line.as_bytes()),
         CommandEnding::Rested(outcome.ending()),

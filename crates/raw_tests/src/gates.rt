@@ -1,6 +1,6 @@
 //! Commands whose gate sees the threads: that workers run beside each other, and that each step on a fabric is told.
 use crate::failing::{TWO_VALUES, Trial, tried};
-use raw_generated::make_set;
+use raw_generated::{GeneratedWords, make_set};
 use raw_set_text::list_set;
 use raw_workers::Gate;
 use std::alloc::Global;
@@ -142,7 +142,10 @@ static COMMANDS: [&[&str]; 2] = [&["run", "--workers", "4"], &["history", "--wor
 #[test]
 fn several_fabrics_in_one_run(rt: HostRuntime) -> Result<(), Fail> {
     let alloc = rt.alloc();
-    let Ok(set) = make_set(alloc, 1000) else {
+    let Some(words) = GeneratedWords::new(1000) else {
+        return Err("no such number of words".into());
+    };
+    let Ok(set) = make_set(alloc, words) else {
         return Err("no set".into());
     };
     let listing = list_set(alloc, &set)?;

@@ -26,7 +26,7 @@ returns g c =
     let n = c.args.n in
     let gen = generated n in
     let m = c.work-machine.result in
-    let valid : IsSet gen = c.law_generated.ensures n c.requires.some c.requires.few in
+    let valid : IsSet gen = subst (λ words. IsSet (generated words)) c.count.ensures.value (c.law_generated.ensures c.count.result c.count.ensures.some c.count.ensures.few) in
     let ends = λ (h : List ℕ) (k : List ℕ). c.law_same_rest.ensures.same_rest gen (start gen) h k valid in
     let some = c.law_bound.ensures.some_run gen in
     let fresh : c.in-Ok-open.fresh.set ≡ gen = c.in-Ok-open.ensures.set ∙ c.in-Ok.ensures in
@@ -41,6 +41,7 @@ returns g c =
     c.word-word.ensures.outcome (waits_for m.set m.state) ∙ ap outcome_word how in
     let text : c.as_bytes.result.now ≡ summary_of n m.state =
     c.as_bytes.ensures ∙ c.summary_line-line.ensures (outcome gen m.state) word
+    ∙ ap (λ words. summary_line words (outcome gen m.state) c.words_out.result.now c.all_steps.result) c.count.ensures.value
     ∙ ap (λ words. summary_line n (outcome gen m.state) words c.all_steps.result) c.words_out.ensures
     ∙ ap (summary_line n (outcome gen m.state) (words_out m.state)) c.all_steps.ensures ∙ line_is n m.state in
     let rest : c.ending.result ≡ ending_of (outcome gen m.state) =
