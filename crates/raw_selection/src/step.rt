@@ -113,6 +113,13 @@ pub fn constant_of(op: FlowOp, a: Operand, b: Operand) -> Option<u32> {
     second.or(in_register(step.first()))
 }
 
+// A register.
+#[derive(Clone, Copy)]
+struct Register {
+    number: u8,
+    ghost there: { number < 32 },
+}
+
 impl Operation {
     /// What is read from the first register.
     pub fn first(self) -> Operand {
@@ -143,11 +150,11 @@ impl Operation {
 
     /// The instruction that makes the value in a register, with its operands in these.
     pub fn instruction(self, to: u8, first: u8, second: u8) -> TileIns {
-        let (to, first, second) = (register(to), register(first), register(second));
+        let (to, first, second) = (numbered(to), numbered(first), numbered(second));
         match self {
             Operation::Registers { op, .. } => registers(op, to, first, second),
             Operation::Immediate { op, low, .. } => immediate(op, to, first, low),
-            Operation::Shift { op, amount, .. } => shift(op, to, first, register(amount)),
+            Operation::Shift { op, amount, .. } => shift(op, to, first, amount),
         }
     }
 }
@@ -159,66 +166,62 @@ pub fn register(number: u8) -> u8
     number & 31
 }
 
+// The register of this number.
+fn numbered(number: u8) -> Register {
+    Register {
+        number: register(number),
+    }
+}
+
 // An operation of arithmetic on registers.
-fn arithmetic(op: FlowOp, to: u8, first: u8, second: u8) -> TileIns
-    requires to { to < 32 }
-    requires first { first < 32 }
-    requires second { second < 32 }
-{
+fn arithmetic(op: FlowOp, to: Register, first: Register, second: Register) -> TileIns {
+    let (rd, rs, rt) = (to.number, first.number, second.number);
     match op {
-        FlowOp::Sub => TileIns::registers(TileOp::Subu, to, first, second),
-        FlowOp::Mul => TileIns::registers(TileOp::Mul, to, first, second),
-        FlowOp::MulHigh => TileIns::registers(TileOp::Mulhi, to, first, second),
-        FlowOp::MulHighUnsigned => TileIns::registers(TileOp::Mulhu, to, first, second),
-        _ => TileIns::registers(TileOp::Addu, to, first, second),
+        FlowOp::Sub => TileIns::registers(TileOp::Subu, rd, rs, rt),
+        FlowOp::Mul => TileIns::registers(TileOp::Mul, rd, rs, rt),
+        FlowOp::MulHigh => TileIns::registers(TileOp::Mulhi, rd, rs, rt),
+        FlowOp::MulHighUnsigned => TileIns::registers(TileOp::Mulhu, rd, rs, rt),
+        _ => TileIns::registers(TileOp::Addu, rd, rs, rt),
     }
 }
 
 // An operation on registers.
-fn registers(op: FlowOp, to: u8, first: u8, second: u8) -> TileIns
-    requires to { to < 32 }
-    requires first { first < 32 }
-    requires second { second < 32 }
-{
+fn registers(op: FlowOp, to: Register, first: Register, second: Register) -> TileIns {
+    let (rd, rs, rt) = (to.number, first.number, second.number);
     match op {
-        FlowOp::And => TileIns::registers(TileOp::And, to, first, second),
-        FlowOp::Or => TileIns::registers(TileOp::Or, to, first, second),
-        FlowOp::Xor => TileIns::registers(TileOp::Xor, to, first, second),
-        FlowOp::Nor => TileIns::registers(TileOp::Nor, to, first, second),
-        FlowOp::Less => TileIns::registers(TileOp::Slt, to, first, second),
-        FlowOp::LessUnsigned => TileIns::registers(TileOp::Sltu, to, first, second),
-        FlowOp::ShiftLeft => TileIns::registers(TileOp::Sllv, to, first, second),
-        FlowOp::ShiftRight => TileIns::registers(TileOp::Srlv, to, first, second),
-        FlowOp::ShiftRightSigned => TileIns::registers(TileOp::Srav, to, first, second),
+        FlowOp::And => TileIns::registers(TileOp::And, rd, rs, rt),
+        FlowOp::Or => TileIns::registers(TileOp::Or, rd, rs, rt),
+        FlowOp::Xor => TileIns::registers(TileOp::Xor, rd, rs, rt),
+        FlowOp::Nor => TileIns::registers(TileOp::Nor, rd, rs, rt),
+        FlowOp::Less => TileIns::registers(TileOp::Slt, rd, rs, rt),
+        FlowOp::LessUnsigned => TileIns::registers(TileOp::Sltu, rd, rs, rt),
+        FlowOp::ShiftLeft => TileIns::registers(TileOp::Sllv, rd, rs, rt),
+        FlowOp::ShiftRight => TileIns::registers(TileOp::Srlv, rd, rs, rt),
+        FlowOp::ShiftRightSigned => TileIns::registers(TileOp::Srav, rd, rs, rt),
         _ => arithmetic(op, to, first, second),
     }
 }
 
 // An operation on a register and an immediate.
-fn immediate(op: FlowOp, to: u8, first: u8, low: u16) -> TileIns
-    requires to { to < 32 }
-    requires first { first < 32 }
-{
+fn immediate(op: FlowOp, to: Register, first: Register, low: u16) -> TileIns {
+    let (rt, rs) = (to.number, first.number);
     match op {
-        FlowOp::And => TileIns::immediate(TileOp::Andi, to, first, low),
-        FlowOp::Or => TileIns::immediate(TileOp::Ori, to, first, low),
-        FlowOp::Xor => TileIns::immediate(TileOp::Xori, to, first, low),
-        FlowOp::Less => TileIns::immediate(TileOp::Slti, to, first, low),
-        FlowOp::LessUnsigned => TileIns::immediate(TileOp::Sltiu, to, first, low),
-        _ => TileIns::immediate(TileOp::Addiu, to, first, low),
+        FlowOp::And => TileIns::immediate(TileOp::Andi, rt, rs, low),
+        FlowOp::Or => TileIns::immediate(TileOp::Ori, rt, rs, low),
+        FlowOp::Xor => TileIns::immediate(TileOp::Xori, rt, rs, low),
+        FlowOp::Less => TileIns::immediate(TileOp::Slti, rt, rs, low),
+        FlowOp::LessUnsigned => TileIns::immediate(TileOp::Sltiu, rt, rs, low),
+        _ => TileIns::immediate(TileOp::Addiu, rt, rs, low),
     }
 }
 
 // A shift by an amount.
-fn shift(op: FlowOp, to: u8, first: u8, amount: u8) -> TileIns
-    requires to { to < 32 }
-    requires first { first < 32 }
-    requires amount { amount < 32 }
-{
+fn shift(op: FlowOp, to: Register, first: Register, amount: u8) -> TileIns {
+    let (rd, rt, amount) = (to.number, first.number, register(amount));
     match op {
-        FlowOp::ShiftRight => TileIns::shift(TileOp::Srl, to, first, amount),
-        FlowOp::ShiftRightSigned => TileIns::shift(TileOp::Sra, to, first, amount),
-        _ => TileIns::shift(TileOp::Sll, to, first, amount),
+        FlowOp::ShiftRight => TileIns::shift(TileOp::Srl, rd, rt, amount),
+        FlowOp::ShiftRightSigned => TileIns::shift(TileOp::Sra, rd, rt, amount),
+        _ => TileIns::shift(TileOp::Sll, rd, rt, amount),
     }
 }
 
