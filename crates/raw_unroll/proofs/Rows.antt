@@ -171,6 +171,7 @@ module _ (u : Unrolling) (s : Stream) (r v : ℕ) (is : IsUnrolled u s r v) wher
 
     pub one_more : IsUnrolled new s r (v + 1)
     one_more = record {
+      fits = is.fits;
       sources = ap (λ n. length n.items) next_same ∙ next.sources;
       next = λ q below. ap (λ n. slice_index n.items q) next_same ∙ next.next q below;
       many = let long = length_push u.places.items (place s r v) in omega (arith, is.many, long, ap length places_are);
@@ -209,6 +210,7 @@ row_done u s r is =
     let more : rows ++ row_nodes s r ≡ flat_map (row_nodes s) (range_with_len 0 (r + 1)) =
     flat_map_more (row_nodes s) [] (range_with_len 0 r) r ∙ ap (λ k. flat_map (row_nodes s) (range_with_len 0 r ++ k ∷ [])) (sym same) ∙ ap (flat_map (row_nodes s)) (sym (range_push 0 r)) in
     record {
+      fits = is.fits;
       sources = is.sources;
       next = λ q below. is.next q below ∙ row_done_place s r q;
       many = let longer : (r + 1) * length s.nodes ≡ r * length s.nodes + length s.nodes = grind arith in omega (arith, is.many, longer);
@@ -227,8 +229,9 @@ filled old new n m k x is none zero_many same =
     is ∙ ap (λ xs. take n xs ++ replicate (n - m) x) none ∙ ap (λ xs. xs ++ replicate (n - m) x) (take_all n [] (omega arith)) ∙ ap (λ j. replicate j x) whole
 
 -- no row is unrolled
-pub none_unrolled : (u : Unrolling) (s : Stream) → u.next.items ≡ map (first s) (range_with_len 0 (length s.sources)) → u.places.items ≡ [] → u.nodes.items ≡ replicate (word_count s) flow_node.Input → IsUnrolled u s 0 0
-none_unrolled u s next places nodes = record {
+pub none_unrolled : (u : Unrolling) (s : Stream) → Fits s → u.next.items ≡ map (first s) (range_with_len 0 (length s.sources)) → u.places.items ≡ [] → u.nodes.items ≡ replicate (word_count s) flow_node.Input → IsUnrolled u s 0 0
+none_unrolled u s fits next places nodes = record {
+  fits = fits;
   sources = ap length next ∙ firsts_long s (length s.sources);
   next = λ q below. ap (λ xs. slice_index xs q) next ∙ firsts_at s (length s.sources) q below ∙ sym (first_word s q);
   many = ap length places ∙ omega arith;
@@ -239,7 +242,7 @@ none_unrolled u s next places nodes = record {
 
 -- all rows are
 pub all_places : (u : Unrolling) (s : Stream) → IsUnrolled u s s.count 0 → ArePlaces s u.places.items
-all_places u s is = record { many = is.many ∙ omega arith; each = λ r v row within. is.before r v row within }
+all_places u s is = record { fits = is.fits; many = is.many ∙ omega arith; each = λ r v row within. is.before r v row within }
 
 pub all_nodes : (u : Unrolling) (s : Stream) → IsUnrolled u s s.count 0 → u.nodes.items ≡ (unrolled s).nodes
 all_nodes u s is = is.nodes ∙ ap (λ xs. replicate (word_count s) flow_node.Input ++ xs) (append-nil (flat_map (row_nodes s) (range_with_len 0 s.count)))

@@ -16,8 +16,9 @@ pub record Fits (s : Stream) : Type 0 where
   pub few : word_count s + s.count * length s.nodes ≤ MAX_NODES
   pub few_in_row : length s.nodes ≤ MAX_NODES
 
--- the rows before row r are unrolled, and of row r the nodes before node v
+-- of a stream that fits the rows before row r are unrolled, and of row r the nodes before node v
 pub record IsUnrolled (u : Unrolling) (s : Stream) (r v : ℕ) : Type 0 where
+  pub fits : Fits s
   pub sources : length u.next.items ≡ length s.sources
   pub next : (q : ℕ) → q < length s.sources → slice_index u.next.items q ≡ word_place s r q v
   pub many : length u.places.items ≡ r * length s.nodes + v
@@ -54,7 +55,8 @@ node_of places begin (Const word) = node.Const word
 node_of places begin (Apply op a b) = node.Apply op (slice_index places (begin + a)) (slice_index places (begin + b))
 node_of places begin (Pre a word) = node.Const word
 
--- where the value of each node of each row is found
+-- where the value of each node of each row is found, of a stream that fits
 pub record ArePlaces (s : Stream) (places : List ℕ) : Type 0 where
+  pub fits : Fits s
   pub many : length places ≡ s.count * length s.nodes
   pub each : (r v : ℕ) → r < s.count → v < length s.nodes → slice_index places (r * length s.nodes + v) ≡ place s r v

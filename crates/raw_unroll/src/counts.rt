@@ -1,5 +1,5 @@
-//! How many words and nodes there are.
-ghost use Rattle.std.specs.Prelude.{◌≡◌, ◌+◌, ◌*◌, ◌<◌, ◌≤◌, ◌^◌, length, map, IfOk};
+//! How many words there are.
+ghost use Rattle.std.specs.Prelude.{◌≡◌, ◌<◌, ◌≤◌, ◌^◌, length, map, IfOk};
 ghost use Rattle.std.specs.List.{range_with_len};
 ghost use Rattle.raw_model.specs.declared.limits.TheConstants.{MAX_ALL_WORDS};
 ghost use Rattle.raw_stream.specs.Unrolled.{first, word_count};
@@ -33,13 +33,4 @@ pub(crate) fn first_places(alloc: Global, stream: &StreamFlow) -> Result<Vec<u32
         total += stream.taken_of(port);
     }
     Ok(places)
-}
-
-/// How many nodes the flow has.
-pub(crate) fn node_count(stream: &StreamFlow) -> u64
-    requires nodes { length stream.now.nodes < 2 ^ 32 }
-    requires words { word_count stream.now ≤ MAX_ALL_WORDS }
-    ensures { result ≡ word_count stream.now + stream.now.count * length stream.now.nodes }
-{
-    word_count(stream) + u64::from(stream.count) * (stream.nodes.len() as u64)
 }

@@ -3,7 +3,7 @@ ghost use Rattle.std.specs.Prelude.{◌≡◌, ◌<◌, ◌++◌, ℕ, length, m
 ghost use Rattle.std.specs.Option.{option_to_list};
 ghost use Rattle.raw_stream.specs.Streams.{due_of, due_at};
 ghost use Rattle.raw_stream.specs.Unrolled.{place, due_places, unrolled};
-ghost use Rattle.raw_unroll.specs.Known.{Fits, ArePlaces};
+ghost use Rattle.raw_unroll.specs.Known.{ArePlaces};
 
 use raw_stream::{StreamFlow, StreamOut};
 use std::alloc::{AllocError, Global};
@@ -17,7 +17,6 @@ fn add_out(
     port: usize,
     out: StreamOut,
 ) -> Result<(), AllocError>
-    requires fits { Fits stream.now }
     requires places { ArePlaces stream.now places.now }
     requires row { row < stream.now.count }
     requires node { out.node < length stream.now.nodes }
@@ -38,7 +37,6 @@ fn add_row(
     row: usize,
     port: usize,
 ) -> Result<(), AllocError>
-    requires fits { Fits stream.now }
     requires places { ArePlaces stream.now places.now }
     requires row { row < stream.now.count }
     ensures { OnOk result (outs.new.items ≡ outs.old.items ++ map (place stream.now row) (due_at stream.now port)) }
@@ -56,8 +54,7 @@ fn add_sink(
     places: &[u32],
     port: usize,
 ) -> Result<(), AllocError>
-    requires fits { Fits stream.now }
-    requires places { ArePlaces stream.now places.now }
+    requires { ArePlaces stream.now places.now }
     ensures { OnOk result (outs.new.items ≡ outs.old.items ++ due_places stream.now port) }
 {
     for row in 0..stream.count as usize {
@@ -72,8 +69,7 @@ pub(crate) fn due_places(
     stream: &StreamFlow,
     places: &[u32],
 ) -> Result<Vec<u32>, AllocError>
-    requires fits { Fits stream.now }
-    requires places { ArePlaces stream.now places.now }
+    requires { ArePlaces stream.now places.now }
     ensures { IfOk result (λ outs. outs.items ≡ (unrolled stream.now).outs) }
 {
     let mut outs = Vec::new(alloc);

@@ -64,7 +64,6 @@ impl Unrolling {
 
     // Where the value of node `v` of a row is found, when those before it are unrolled. The word of an input is taken.
     fn take_place(&mut self, stream: &StreamFlow, row: usize, v: usize, node: RowNode) -> u32
-        requires fits { Fits stream.now }
         requires unrolled { IsUnrolled self.old stream.now row v }
         requires row { row < stream.now.count }
         requires node { slice_get stream.now.nodes v ≡ Some node }
@@ -99,7 +98,6 @@ impl Unrolling {
 
     // Unrolls node `v` of a row, when those before it are.
     fn add_node(&mut self, stream: &StreamFlow, row: usize, v: usize) -> Result<(), AllocError>
-        requires fits { Fits stream.now }
         requires unrolled { IsUnrolled self.old stream.now row v }
         requires row { row < stream.now.count }
         requires node { v < length stream.now.nodes }
@@ -115,7 +113,6 @@ impl Unrolling {
 
     // Unrolls a row, when those before it are.
     fn add_row(&mut self, stream: &StreamFlow, row: usize) -> Result<(), AllocError>
-        requires fits { Fits stream.now }
         requires unrolled { IsUnrolled self.old stream.now row 0 }
         requires row { row < stream.now.count }
         ensures { OnOk result (IsUnrolled self.new stream.now (row + 1) 0) }

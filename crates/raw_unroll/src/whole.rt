@@ -1,15 +1,25 @@
 //! A stream as the ordinary flow that it is.
-ghost use Rattle.std.specs.Prelude.{◌≡◌, ◌↔◌, ◌<◌, None, length, IfOk, IfSome};
+ghost use Rattle.std.specs.Prelude.{◌≡◌, ◌+◌, ◌*◌, ◌↔◌, ◌<◌, ◌≤◌, ◌^◌, None, length, IfOk, IfSome};
+ghost use Rattle.raw_model.specs.declared.limits.TheConstants.{MAX_ALL_WORDS};
 ghost use Rattle.raw_flow.specs.declared.limits.TheConstants.{MAX_NODES};
 ghost use Rattle.raw_stream.specs.Kept.{IsStream};
-ghost use Rattle.raw_stream.specs.Unrolled.{unrolled};
+ghost use Rattle.raw_stream.specs.Unrolled.{word_count, unrolled};
 
-use crate::counts::node_count;
+use crate::counts::word_count;
 use crate::outs::due_places;
 use crate::unrolling::Unrolling;
 use raw_flow::{Flow, MAX_NODES};
 use raw_stream::StreamFlow;
 use std::alloc::{AllocError, Global};
+
+// How many nodes the flow has.
+fn node_count(stream: &StreamFlow) -> u64
+    requires nodes { length stream.now.nodes < 2 ^ 32 }
+    requires words { word_count stream.now ≤ MAX_ALL_WORDS }
+    ensures { result ≡ word_count stream.now + stream.now.count * length stream.now.nodes }
+{
+    word_count(stream) + u64::from(stream.count) * (stream.nodes.len() as u64)
+}
 
 /// The flow that a stream is when it is unrolled, and `None` exactly where it has more than 8,192 nodes.
 ///

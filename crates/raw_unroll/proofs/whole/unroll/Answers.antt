@@ -23,9 +23,7 @@ of_all-requires c =
 
 pub due_places-requires : goal.due_places-requires
 due_places-requires c =
-    let s : Stream = c.args.stream.now in
-    let few : word_count s + s.count * length s.nodes ≤ MAX_NODES = omega (arith, c.node_count.ensures, c.if-node_count.false) in
-    record { fits = fits s c.requires few; places = rw c.deref.ensures.value (all_places c.in_ok-unrolling.unrolling s c.in_ok-unrolling.ensures) }
+    rw c.deref.ensures.value (all_places c.in_ok-unrolling.unrolling c.args.stream.now c.in_ok-unrolling.ensures)
 
 pub invariant_of-result : goal.invariant_of-result
 invariant_of-result c =

@@ -14,7 +14,7 @@ node_of-made-requires c =
     let within : c.args.v < length c.stream.inside.nodes.items = omega (arith, c.requires.node, ap length nodes) in
     let there : slice_get s.nodes c.args.v ≡ Some node = subst (λ xs. slice_get xs c.args.v ≡ Some node) nodes (slice_get_read c.stream.inside.nodes.items (length c.stream.inside.nodes.items) c.args.v node refl within c.index-node.ensures) in
     let begin = begins c.args.self.now s c.args.row c.args.v c.requires.unrolled (c.len.result - c.args.v) (omega arith) in
-    are_there c.args.self.now s c.args.row c.args.v (c.len.result - c.args.v) node c.requires.unrolled c.requires.fits.named there begin
+    are_there c.args.self.now s c.args.row c.args.v (c.len.result - c.args.v) node c.requires.unrolled c.requires.unrolled.fits.named there begin
 
 pub take_place-place-requires-clause-node : goal.take_place-place-requires-clause-node
 take_place-place-requires-clause-node c =
@@ -33,7 +33,7 @@ returns c =
     let within : c.args.v < length c.stream.inside.nodes.items = omega (arith, c.requires.node, ap length nodes) in
     let there : slice_get s.nodes c.args.v ≡ Some node = subst (λ xs. slice_get xs c.args.v ≡ Some node) nodes (slice_get_read c.stream.inside.nodes.items (length c.stream.inside.nodes.items) c.args.v node refl within c.index-node.ensures) in
     let begin = begins c.args.self.now s c.args.row c.args.v c.requires.unrolled (c.len.result - c.args.v) (omega arith) in
-    let room = are_there c.args.self.now s c.args.row c.args.v (c.len.result - c.args.v) node c.requires.unrolled c.requires.fits.named there begin in
+    let room = are_there c.args.self.now s c.args.row c.args.v (c.len.result - c.args.v) node c.requires.unrolled c.requires.unrolled.fits.named there begin in
     let made = c.node_of-made.ensures ∙ node_made c.args.self.now s c.args.row c.args.v c.requires.unrolled (c.len.result - c.args.v) node begin room in
     let new : Unrolling = record { next = c.take_place-place.new.self.next; places = c.push.new.self; nodes = c.push-2.new.self } in
     one_more c.args.self.now s c.args.row c.args.v c.requires.unrolled c.take_place-place.new.self new c.take_place-place.result node c.node_of-made.result c.take_place-place.ensures.next refl

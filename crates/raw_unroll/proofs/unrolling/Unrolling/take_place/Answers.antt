@@ -11,7 +11,7 @@ pub take_word-requires : goal.take_word-requires
 take_word-requires c =
     let s : Stream = c.args.stream.now in
     let is = c.requires.unrolled in
-    let named = c.requires.fits.named in
+    let named = c.requires.unrolled.fits.named in
     let there : slice_get s.nodes c.args.v ≡ Some (Input c.in-Input.port) = c.requires.node ∙ ap Some c.in-Input.is in
     let within = slice_get_within s.nodes c.args.v (Input c.in-Input.port) there in
     let low : c.in-Input.port < length s.sources = named.nodes c.args.v (Input c.in-Input.port) there in
@@ -19,14 +19,14 @@ take_word-requires c =
     let inside = word_within s named c.args.row c.in-Input.port c.args.v c.requires.row there in
     record {
       within = omega (arith, low, is.sources);
-      room = omega (arith, next, inside, c.requires.fits.few);
+      room = omega (arith, next, inside, c.requires.unrolled.fits.few);
     }
 
 pub returns-in-Input : goal.returns-in-Input
 returns-in-Input c =
     let s : Stream = c.args.stream.now in
     let is = c.requires.unrolled in
-    let named = c.requires.fits.named in
+    let named = c.requires.unrolled.fits.named in
     let there : slice_get s.nodes c.args.v ≡ Some (Input c.in-Input.port) = c.requires.node ∙ ap Some c.in-Input.is in
     let within = slice_get_within s.nodes c.args.v (Input c.in-Input.port) there in
     let low : c.in-Input.port < length s.sources = named.nodes c.args.v (Input c.in-Input.port) there in
@@ -39,7 +39,7 @@ pub returns-in-Const : goal.returns-in-Const
 returns-in-Const c =
     let s : Stream = c.args.stream.now in
     let is = c.requires.unrolled in
-    let named = c.requires.fits.named in
+    let named = c.requires.unrolled.fits.named in
     let there : slice_get s.nodes c.args.v ≡ Some (Const c.in-Const.word) = c.requires.node ∙ ap Some c.in-Const.is in
     let within = slice_get_within s.nodes c.args.v (Const c.in-Const.word) there in
     let many : c.len-in-Const.result ≡ length c.args.self.now.nodes.items = omega arith in
@@ -52,7 +52,7 @@ pub returns-in-Apply : goal.returns-in-Apply
 returns-in-Apply c =
     let s : Stream = c.args.stream.now in
     let is = c.requires.unrolled in
-    let named = c.requires.fits.named in
+    let named = c.requires.unrolled.fits.named in
     let there : slice_get s.nodes c.args.v ≡ Some (Apply c.in-Apply.op c.in-Apply.a c.in-Apply.b) = c.requires.node ∙ ap Some c.in-Apply.is in
     let within = slice_get_within s.nodes c.args.v (Apply c.in-Apply.op c.in-Apply.a c.in-Apply.b) there in
     let many : c.len-in-Apply.result ≡ length c.args.self.now.nodes.items = omega arith in
@@ -65,24 +65,24 @@ pub pre_place-requires : goal.pre_place-requires
 pre_place-requires c =
     let s : Stream = c.args.stream.now in
     let is = c.requires.unrolled in
-    let named = c.requires.fits.named in
+    let named = c.requires.unrolled.fits.named in
     let there : slice_get s.nodes c.args.v ≡ Some (Pre c.in-Pre.a c.in-Pre.word) = c.requires.node ∙ ap Some c.in-Pre.is in
     let within = slice_get_within s.nodes c.args.v (Pre c.in-Pre.a c.in-Pre.word) there in
-    let room = within_all s c.args.row c.requires.fits c.requires.row in
+    let room = within_all s c.args.row c.requires.unrolled.fits c.requires.row in
     let long = next_own c.args.self.now s c.args.row c.args.v is (omega (arith, within)) in
     let begin = begins c.args.self.now s c.args.row c.args.v is (c.len.result - c.args.v) (omega arith) in
     record {
       before = λ some. begins_behind s c.args.row (c.len.result - c.args.v) begin some;
       there = omega (arith, begin, is.many);
       node = (named.nodes c.args.v (Pre c.in-Pre.a c.in-Pre.word) there).0;
-      few = omega (arith, room, long, within, c.requires.fits.few);
+      few = omega (arith, room, long, within, c.requires.unrolled.fits.few);
     }
 
 pub returns-in-Pre : goal.returns-in-Pre
 returns-in-Pre c =
     let s : Stream = c.args.stream.now in
     let is = c.requires.unrolled in
-    let named = c.requires.fits.named in
+    let named = c.requires.unrolled.fits.named in
     let there : slice_get s.nodes c.args.v ≡ Some (Pre c.in-Pre.a c.in-Pre.word) = c.requires.node ∙ ap Some c.in-Pre.is in
     let within = slice_get_within s.nodes c.args.v (Pre c.in-Pre.a c.in-Pre.word) there in
     let begin = begins c.args.self.now s c.args.row c.args.v is (c.len.result - c.args.v) (omega arith) in
@@ -95,20 +95,20 @@ pub overflow_cast-result : goal.overflow_cast-result
 overflow_cast-result c =
     let s : Stream = c.args.stream.now in
     let is = c.requires.unrolled in
-    let named = c.requires.fits.named in
+    let named = c.requires.unrolled.fits.named in
     let there : slice_get s.nodes c.args.v ≡ Some (Const c.in-Const.word) = c.requires.node ∙ ap Some c.in-Const.is in
     let within = slice_get_within s.nodes c.args.v (Const c.in-Const.word) there in
-    let room = within_all s c.args.row c.requires.fits c.requires.row in
+    let room = within_all s c.args.row c.requires.unrolled.fits c.requires.row in
     let long = next_own c.args.self.now s c.args.row c.args.v is (omega (arith, within)) in
-    omega (arith, room, long, within, c.requires.fits.few)
+    omega (arith, room, long, within, c.requires.unrolled.fits.few)
 
 pub overflow_cast-result-in-Apply : goal.overflow_cast-result-in-Apply
 overflow_cast-result-in-Apply c =
     let s : Stream = c.args.stream.now in
     let is = c.requires.unrolled in
-    let named = c.requires.fits.named in
+    let named = c.requires.unrolled.fits.named in
     let there : slice_get s.nodes c.args.v ≡ Some (Apply c.in-Apply.op c.in-Apply.a c.in-Apply.b) = c.requires.node ∙ ap Some c.in-Apply.is in
     let within = slice_get_within s.nodes c.args.v (Apply c.in-Apply.op c.in-Apply.a c.in-Apply.b) there in
-    let room = within_all s c.args.row c.requires.fits c.requires.row in
+    let room = within_all s c.args.row c.requires.unrolled.fits c.requires.row in
     let long = next_own c.args.self.now s c.args.row c.args.v is (omega (arith, within)) in
-    omega (arith, room, long, within, c.requires.fits.few)
+    omega (arith, room, long, within, c.requires.unrolled.fits.few)
