@@ -1,6 +1,7 @@
 -- What the rest of a run says of a stream.
-use Rattle.std.specs.Prelude.{◌≡◌, ℕ, ◌==◌, not, Option, Some, None, List, length}
+use Rattle.std.specs.Prelude.{◌≡◌, ℕ, ◌≤◌, ◌==◌, not, Option, Some, None, List, length}
 use Rattle.std.specs.List.{find, flat_map, range_with_len}
+use Rattle.raw_model.specs.declared.limits.TheConstants.{MAX_ALL_WORDS}
 use Rattle.raw_model.specs.Program.{ProgramSet}
 use Rattle.raw_model.specs.Start.{MachineState}
 use Rattle.raw_model.specs.Rest.{IsRun, end}
@@ -10,12 +11,17 @@ use Rattle.raw_outcome.specs.declared.ends.Outcome.{Outcome}
 use Rattle.raw_outcome.specs.declared.ends.Outcome.TheVariants as answer
 use Rattle.raw_outcome.specs.Told.{told}
 use Rattle.raw_stream.specs.Streams.{Stream}
-use Rattle.raw_stream.specs.Unrolled.{all_rows}
+use Rattle.raw_stream.specs.Unrolled.{word_count, all_rows}
 use Rattle.raw_stream.specs.Kept.{due_count}
 use Rattle.raw_row_terms.specs.RowClaims.{got_at, due_in}
 use Rattle.raw_refute.specs.declared.fault.Fault.{Fault}
 use Rattle.raw_refute.specs.declared.fault.Fault.TheVariants.{Ends, Words}
 use Rattle.raw_refute.specs.Judged.{first_other}
+
+-- there are as many words as the sources give in all rows, and no more than a set may have
+pub record AreCounted (s : Stream) (words : List ℕ) : Type 0 where
+  pub few : word_count s ≤ MAX_ALL_WORDS
+  pub each : length words ≡ word_count s
 
 -- the first port of a set that has not as many words as it is due of all rows, where the ports have received these
 abbrev pub first_miscount : ProgramSet → Stream → (ℕ → List ℕ) → Option ℕ

@@ -140,27 +140,8 @@ fn by_runs(
     Ok(None)
 }
 
-// Looks for words by the terms that differ, and runs the set with what is found.
-fn by_difference(
-    alloc: Global,
-    set: &mut Set,
-    claim: &Flow,
-    places: &[Place],
-    own: &[u32],
-    difference: &Difference,
-    steps: u64,
-) -> Result<Option<Answer>, AllocError>
-    requires right { AreRight set.old claim.now places.now own.now }
-    ensures { IfOk result (λ answer. IsTried set.old claim.now places.now set.new answer) }
-{
-    let found = by_terms(alloc, difference, own.len(), steps)?;
-    match found {
-        Some(words) => Ok(refuted_by(alloc, set, claim, places, own, words)?.answer),
-        None => Ok(None),
-    }
-}
-
-// Looks for words where the set's own do not refute the claim, and the run with terms does not prove it.
+// Looks for words where the set's own do not refute the claim, and the run with terms does not prove it: by the terms that
+// differ, where there are such, and runs the set with what is found.
 fn looked_for(
     alloc: Global,
     set: &mut Set,
@@ -173,9 +154,13 @@ fn looked_for(
     requires right { AreRight set.old claim.now places.now own.now }
     ensures { IfOk result (λ answer. IsTried set.old claim.now places.now set.new answer) }
 {
-    match proof.difference {
-        Some(difference) => by_difference(alloc, set, claim, places, own, &difference, steps),
-        None => by_runs(alloc, set, claim, places, own),
+    let Some(difference) = proof.difference else {
+        return by_runs(alloc, set, claim, places, own);
+    };
+    let found = by_terms(alloc, &difference, own.len(), steps)?;
+    match found {
+        Some(words) => Ok(refuted_by(alloc, set, claim, places, own, words)?.answer),
+        None => Ok(None),
     }
 }
 

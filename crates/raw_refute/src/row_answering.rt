@@ -13,7 +13,7 @@ use crate::said::Answer;
 use raw_lengths::prove_length;
 use raw_model::Set;
 use raw_outcome::Outcome;
-use raw_prove::{Difference, Proof, misfed, prove_rows, words_at};
+use raw_prove::{Proof, misfed, prove_rows, words_at};
 use raw_row_terms::law_rows_right;
 use raw_search::{Lists, MAX_LISTS};
 use raw_stream::StreamFlow;
@@ -78,27 +78,8 @@ fn by_runs(
     Ok(None)
 }
 
-// Looks for words by the terms that differ, and runs the set with what is found.
-fn by_difference(
-    alloc: Global,
-    set: &mut Set,
-    stream: &StreamFlow,
-    order: &[u32],
-    own: &[u32],
-    difference: &Difference,
-    steps: u64,
-) -> Result<Option<Answer>, AllocError>
-    requires { OwnRowsStand set.old stream.now order.now own.now }
-    ensures { IfOk result (λ answer. IsRowsTried set.old stream.now order.now set.new answer) }
-{
-    let found = by_terms(alloc, difference, own.len(), steps)?;
-    match found {
-        Some(words) => Ok(refuted_by(alloc, set, stream, order, own, words)?.answer),
-        None => Ok(None),
-    }
-}
-
-// Looks for words where the set's own do not refute the stream, and the run with terms does not prove it.
+// Looks for words where the set's own do not refute the stream, and the run with terms does not prove it: by the terms
+// that differ, where there are such, and runs the set with what is found.
 fn looked_for(
     alloc: Global,
     set: &mut Set,
@@ -111,9 +92,13 @@ fn looked_for(
     requires { OwnRowsStand set.old stream.now order.now own.now }
     ensures { IfOk result (λ answer. IsRowsTried set.old stream.now order.now set.new answer) }
 {
-    match proof.difference {
-        Some(difference) => by_difference(alloc, set, stream, order, own, &difference, steps),
-        None => by_runs(alloc, set, stream, order, own),
+    let Some(difference) = proof.difference else {
+        return by_runs(alloc, set, stream, order, own);
+    };
+    let found = by_terms(alloc, &difference, own.len(), steps)?;
+    match found {
+        Some(words) => Ok(refuted_by(alloc, set, stream, order, own, words)?.answer),
+        None => Ok(None),
     }
 }
 

@@ -1,13 +1,12 @@
 //! What a run of a set says of a stream.
-ghost use Rattle.std.specs.Prelude.{◌≡◌, ◌+◌, ◌<◌, ◌≤◌, ◌^◌, length, All, IfOk};
+ghost use Rattle.std.specs.Prelude.{◌≡◌, ◌+◌, ◌<◌, ◌^◌, length, All, IfOk};
 ghost use Rattle.std.specs.List.{flat_map};
-ghost use Rattle.raw_model.specs.declared.limits.TheConstants.{MAX_ALL_WORDS};
 ghost use Rattle.raw_model.specs.Program.{IsSet};
 ghost use Rattle.raw_model.specs.Rest.{IsQuiet};
-ghost use Rattle.raw_stream.specs.Unrolled.{word_count, all_rows};
+ghost use Rattle.raw_stream.specs.Unrolled.{all_rows};
 ghost use Rattle.raw_stream.specs.Streams.{due_to};
 ghost use Rattle.raw_row_terms.specs.RowClaims.{got_at, got_in, due_in, HasRows};
-ghost use Rattle.raw_refute.specs.RowJudged.{first_miscount, of_ports, IsRowsFaultOf, IsRowsJudged};
+ghost use Rattle.raw_refute.specs.RowJudged.{AreCounted, first_miscount, of_ports, IsRowsFaultOf, IsRowsJudged};
 ghost use Rattle.raw_row_terms.specs.RowClaims.{IsClaimOf};
 
 use crate::fault::Fault;
@@ -66,8 +65,7 @@ fn due_in(
     order: &[u32],
 ) -> Result<Vec<u32>, AllocError>
     requires rows { HasRows stream.now }
-    requires few { word_count stream.now ≤ MAX_ALL_WORDS }
-    requires each { length words.now ≡ word_count stream.now }
+    requires words { AreCounted stream.now words.now }
     ensures { IfOk result (λ due. due.items ≡ due_in stream.now order.now (all_rows stream.now words.now)) }
 {
     let mut all = Vec::new(alloc);
@@ -87,8 +85,7 @@ fn done_fault(
     words: &[u32],
 ) -> Result<Option<Fault>, AllocError>
     requires claim { IsClaimOf machine.now.set stream.now order.now }
-    requires few { word_count stream.now ≤ MAX_ALL_WORDS }
-    requires each { length words.now ≡ word_count stream.now }
+    requires words { AreCounted stream.now words.now }
     ensures { IfOk result (λ fault. fault ≡
         of_ports (first_miscount machine.now.set stream.now (got_at machine.now.set machine.now.state)) stream.now order.now
         (due_in stream.now order.now (all_rows stream.now words.now)) (got_at machine.now.set machine.now.state)) }
@@ -116,8 +113,7 @@ fn fault_of(
 ) -> Result<Option<Fault>, AllocError>
     requires quiet { IsQuiet machine.now.set machine.now.state }
     requires claim { IsClaimOf machine.now.set stream.now order.now }
-    requires few { word_count stream.now ≤ MAX_ALL_WORDS }
-    requires each { length words.now ≡ word_count stream.now }
+    requires words { AreCounted stream.now words.now }
     ensures { IfOk result (IsRowsFaultOf machine.now.set stream.now order.now words.now machine.now.state) }
 {
     let how = outcome(machine);
@@ -140,8 +136,7 @@ pub fn judge_rows(
     words: &[u32],
 ) -> Result<Ran, AllocError>
     requires claim { IsClaimOf set.now stream.now order.now }
-    requires few { word_count stream.now ≤ MAX_ALL_WORDS }
-    requires each { length words.now ≡ word_count stream.now }
+    requires words { AreCounted stream.now words.now }
     ensures judged { IfOk result (λ ran. IsRowsJudged set.now stream.now order.now words.now ran.fault) }
     ensures valid { IsSet set.now }
     ensures words { All (λ word. word < 2 ^ 32) words.now }

@@ -7,12 +7,13 @@ use Rattle.raw_refute.proofs.Fed.{own_each}
 use Rattle.raw_refute.proofs.RowConcluding.{own_refutes, are_right}
 use Rattle.raw_refute.proofs.row_answering.by_all_rows.Goals as goal
 
-pub judge_rows-requires-clause-few : goal.judge_rows-requires-clause-few
-judge_rows-requires-clause-few c = omega (arith, words_are c.args.set.now c.args.stream.now c.requires.claim.ports c.requires.counts, c.requires.valid.totals.words)
-
-pub judge_rows-requires-clause-each : goal.judge_rows-requires-clause-each
-judge_rows-requires-clause-each c =
-    ap length (c.deref.ensures.value ∙ c.in_ok-own.ensures) ∙ own_each c.args.set.now ∙ sym (words_are c.args.set.now c.args.stream.now c.requires.claim.ports c.requires.counts)
+pub judge_rows-requires-clause-words : goal.judge_rows-requires-clause-words
+judge_rows-requires-clause-words c =
+    let all = words_are c.args.set.now c.args.stream.now c.requires.claim.ports c.requires.counts in
+    record {
+      few = omega (arith, all, c.requires.valid.totals.words);
+      each = ap length (c.deref.ensures.value ∙ c.in_ok-own.ensures) ∙ own_each c.args.set.now ∙ sym all;
+    }
 
 pub returns-in-Some : goal.returns-in-Some
 returns-in-Some c =

@@ -16,12 +16,13 @@ judge_rows-requires-clause-claim c =
     let there : c.feed.new.set ≡ fed c.args.set.now c.args.words.items = c.feed.ensures ∙ ap (fed c.args.set.now) c.deref.ensures.value in
     subst (λ (s : ProgramSet). IsClaimOf s c.args.stream.now c.args.order.now) (sym there) (claim_fed c.args.set.now c.args.stream.now c.args.order.now c.args.words.items c.requires.stands.claim)
 
-pub judge_rows-requires-clause-few : goal.judge_rows-requires-clause-few
-judge_rows-requires-clause-few c = omega (arith, words_are c.args.set.now c.args.stream.now c.requires.stands.claim.ports c.requires.stands.right.counts, c.requires.stands.valid.totals.words)
-
-pub judge_rows-requires-clause-each : goal.judge_rows-requires-clause-each
-judge_rows-requires-clause-each c =
-    ap length c.deref-2.ensures.value ∙ c.requires.each ∙ sym (words_are c.args.set.now c.args.stream.now c.requires.stands.claim.ports c.requires.stands.right.counts)
+pub judge_rows-requires-clause-words : goal.judge_rows-requires-clause-words
+judge_rows-requires-clause-words c =
+    let all = words_are c.args.set.now c.args.stream.now c.requires.stands.claim.ports c.requires.stands.right.counts in
+    record {
+      few = omega (arith, all, c.requires.stands.valid.totals.words);
+      each = ap length c.deref-2.ensures.value ∙ c.requires.each ∙ sym all;
+    }
 
 pub returns-in-Some : goal.returns-in-Some
 returns-in-Some c =

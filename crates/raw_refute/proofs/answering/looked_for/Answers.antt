@@ -1,9 +1,9 @@
 use Rattle.std.proofs.Common.{◌≡◌, ◌∙◌, length, subst}
 use Rattle.std.specs.Prelude.{IfSome}
 use Rattle.raw_refute.proofs.Concluding.{own_count}
-use Rattle.raw_refute.proofs.answering.by_difference.Goals as goal
+use Rattle.raw_refute.proofs.answering.looked_for.Goals as goal
 
 pub refuted_by-requires-clause-each : goal.refuted_by-requires-clause-each
 refuted_by-requires-clause-each c =
-    subst (λ found. IfSome found (λ words. length words.items ≡ length c.args.own.now)) c.in-Some.is c.in_ok-found.ensures
+    subst (λ found. IfSome found (λ words. length words.items ≡ length c.args.own.now)) c.in-Some-found.is c.in_ok-found.ensures
     ∙ own_count c.args.set.now c.args.claim.now c.args.places.now c.args.own.now c.requires.right
