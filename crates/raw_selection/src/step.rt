@@ -113,9 +113,9 @@ pub fn constant_of(op: FlowOp, a: Operand, b: Operand) -> Option<u32> {
     second.or(in_register(step.first()))
 }
 
-// A register.
+// The number of a register.
 #[derive(Clone, Copy)]
-struct Register {
+struct RegisterNumber {
     number: u8,
     ghost there: { number < 32 },
 }
@@ -167,14 +167,19 @@ pub fn register(number: u8) -> u8
 }
 
 // The register of this number.
-fn numbered(number: u8) -> Register {
-    Register {
+fn numbered(number: u8) -> RegisterNumber {
+    RegisterNumber {
         number: register(number),
     }
 }
 
 // An operation of arithmetic on registers.
-fn arithmetic(op: FlowOp, to: Register, first: Register, second: Register) -> TileIns {
+fn arithmetic(
+    op: FlowOp,
+    to: RegisterNumber,
+    first: RegisterNumber,
+    second: RegisterNumber,
+) -> TileIns {
     let (rd, rs, rt) = (to.number, first.number, second.number);
     match op {
         FlowOp::Sub => TileIns::registers(TileOp::Subu, rd, rs, rt),
@@ -186,7 +191,12 @@ fn arithmetic(op: FlowOp, to: Register, first: Register, second: Register) -> Ti
 }
 
 // An operation on registers.
-fn registers(op: FlowOp, to: Register, first: Register, second: Register) -> TileIns {
+fn registers(
+    op: FlowOp,
+    to: RegisterNumber,
+    first: RegisterNumber,
+    second: RegisterNumber,
+) -> TileIns {
     let (rd, rs, rt) = (to.number, first.number, second.number);
     match op {
         FlowOp::And => TileIns::registers(TileOp::And, rd, rs, rt),
@@ -203,7 +213,7 @@ fn registers(op: FlowOp, to: Register, first: Register, second: Register) -> Til
 }
 
 // An operation on a register and an immediate.
-fn immediate(op: FlowOp, to: Register, first: Register, low: u16) -> TileIns {
+fn immediate(op: FlowOp, to: RegisterNumber, first: RegisterNumber, low: u16) -> TileIns {
     let (rt, rs) = (to.number, first.number);
     match op {
         FlowOp::And => TileIns::immediate(TileOp::Andi, rt, rs, low),
@@ -216,7 +226,7 @@ fn immediate(op: FlowOp, to: Register, first: Register, low: u16) -> TileIns {
 }
 
 // A shift by an amount.
-fn shift(op: FlowOp, to: Register, first: Register, amount: u8) -> TileIns {
+fn shift(op: FlowOp, to: RegisterNumber, first: RegisterNumber, amount: u8) -> TileIns {
     let (rd, rt, amount) = (to.number, first.number, register(amount));
     match op {
         FlowOp::ShiftRight => TileIns::shift(TileOp::Srl, rd, rt, amount),
