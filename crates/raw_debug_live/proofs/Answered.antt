@@ -3,7 +3,7 @@ use Rattle.std.proofs.Common.{◌≡◌, ℕ, ◌<◌, List, [], ◌∷◌, ◌+
 use Rattle.std.specs.Prelude.{OnOk, is_err, true, false}
 use Rattle.std.specs.Io.KnownBytes.{Appends}
 use Rattle.std.proofs.KnownBytes.{Appends-nil}
-use Rattle.raw_io.specs.Sights.{Sight}
+use Rattle.raw_io.specs.Sights.{Sight, SourceSight}
 use Rattle.raw_io.specs.Writing.{Writes}
 use Rattle.raw_io.specs.declared.Failed.{Failed}
 use Rattle.raw_text.specs.Lines.{lines_of}
@@ -15,10 +15,11 @@ use Rattle.raw_debug.specs.Commands.{LabelPlaces}
 use Rattle.raw_debug.specs.Script.{Spot, first_spot}
 use Rattle.raw_debug.specs.Live.{Session, line_answer, line_spot, answers, spot_after}
 use Rattle.raw_debug.proofs.Replaying.{more_answers}
+use Rattle.raw_debug_live.specs.declared.answering.Halt.{Halt}
 use Rattle.raw_debug_live.specs.declared.line.LineStart.{LineStart}
 use Rattle.raw_debug_live.specs.declared.line.TheConstants.{HELD}
 use Rattle.raw_debug_live.specs.Bytes.{held}
-use Rattle.raw_debug_live.specs.Answering.{At, AtAfter, FailsIn, Finished}
+use Rattle.raw_debug_live.specs.Answering.{At, AtAfter, FailsIn, Finished, Answers}
 use Rattle.raw_debug_live.proofs.Holding.{same_answer, same_spot}
 
 -- one line more
@@ -140,3 +141,9 @@ pub goes_in : (labels : LabelPlaces) (set : ProgramSet) (bytes : List ℕ) (befo
     → AtAfter labels set bytes before now debugger line r → At labels set bytes before now debugger line
 goes_in labels set bytes before now debugger line (Ok x) err after = after
 goes_in labels set bytes before now debugger line (Err e) err after = absurd (cc err)
+
+-- what was answered with the labels and the set of another name
+pub answers_of : (old new : SourceSight) (before now : Sight) (labels own_labels : LabelPlaces) (set own : ProgramSet) (most : ℕ) (r : Result (Unit {0}) Halt)
+    → own_labels ≡ labels → own ≡ set → Answers old new before now own_labels own most r → Answers old new before now labels set most r
+answers_of old new before now labels own_labels set own most r same same_set answers =
+    subst (λ l. Answers old new before now l set most r) same (subst (λ s. Answers old new before now own_labels s most r) same_set answers)

@@ -7,11 +7,10 @@ use Rattle.raw_shell.specs.Answers.{status_of, Said}
 use Rattle.raw_shell.specs.Seen.{Seen, ReadFails, Untouched, GivesOneTooMany}
 use Rattle.raw_debug_live.specs.declared.answering.Halt.{Halt}
 use Rattle.raw_debug_live.specs.declared.answering.Halt.TheVariants as halt
-use Rattle.raw_debug_live.specs.declared.head.Stop.{Stop}
-use Rattle.raw_debug_live.specs.declared.head.Stop.TheVariants as stop
+use Rattle.raw_live_head.specs.Flaws.{Failure, flaw_line}
+use Rattle.raw_live_head.specs.Beginning.{StopsInHead}
 use Rattle.raw_debug_live.specs.Answering.{AnsweredAs}
-use Rattle.raw_debug_live.specs.Heads.{ReadsHead}
-use Rattle.raw_debug_live.specs.Serving.{labels_of, Failure, Answer, flaw_line, failure_of, answer_of, StopsInHead, Reached, Serves, Ended}
+use Rattle.raw_debug_live.specs.Serving.{script_word, labels_of, Answer, answer_of, Reached, Serves, Ended}
 use Rattle.raw_debug_live.specs.Promises.{Reads, AnswersAll, RefusesHead, FailedRead, FailedWrite, HadNoMemory, HadTooMany, IsStatus, Promises}
 
 -- ---- what an answer says of the streams
@@ -19,26 +18,20 @@ use Rattle.raw_debug_live.specs.Promises.{Reads, AnswersAll, RefusesHead, Failed
 module _ (seen : Seen) where
   -- why no line was answered
   abbrev Reason : Failure → Type 0
-  Reason (Refused flaw) = StopsInHead seen.source (Refused flaw)
+  Reason (Refused flaw) = StopsInHead script_word 1 seen.source (Refused flaw)
   Reason ReadFault = ReadFails seen.source
   Reason Memory = Unit {0}
   Reason TooLong = GivesOneTooMany seen.source
   Reason _ = ⊥
 
-  head_reason : (how : Stop) → StopsInHead seen.source (failure_of how) → ReadsHead seen.source.old seen.source.new (Err how) → Reason (failure_of how)
-  head_reason (stop.At flaw) stops reads = stops
-  head_reason stop.Read stops reads = reads.meant.0
-  head_reason stop.TooLong stops reads = let long = reads.meant.0 in omega (arith, long, reads.counted)
-  head_reason stop.Memory stops reads = tt
+  reason_is : (failure : Failure) → StopsInHead script_word 1 seen.source failure → Reason failure
+  reason_is (Refused flaw) stops = stops
+  reason_is ReadFault stops = stops.cause.1
+  reason_is TooLong stops = let long = stops.cause.0 in omega (arith, long, stops.counted)
+  reason_is Memory stops = tt
+  reason_is _ stops = absurd stops.cause
 
-  reason_is : (failure : Failure) → StopsInHead seen.source failure → Reason failure
-  reason_is failure stops =
-      ⊎_elim
-      (λ s. subst Reason (sym s.2) (head_reason s.0 (subst (StopsInHead seen.source) s.2 stops) s.1))
-      (λ more. ⊎_elim (λ m. subst Reason (sym m) tt) (λ s. subst Reason (sym s.3) (subst (StopsInHead seen.source) s.3 stops)) more)
-      stops.why
-
-  reason : (failure : Failure) → StopsInHead seen.source failure ⊎ (failure ≡ Memory) → Reason failure
+  reason : (failure : Failure) → StopsInHead script_word 1 seen.source failure ⊎ (failure ≡ Memory) → Reason failure
   reason failure (inl stops) = reason_is failure stops
   reason failure (inr is) = subst Reason (sym is) tt
 
@@ -78,7 +71,7 @@ module _ (seen : Seen) where
     reached (Err halt.Read) is said =
         let a = as_is (Err halt.Read) is in
         let rose = a.0 in
-        record { failed = omega (arith, r.begins.later, rose); put = inr (record { bytes = r.answers.bytes; read = read; put = a.2 }); said = said }
+        record { failed = omega (arith, r.begins.count, rose); put = inr (record { bytes = r.answers.bytes; read = read; put = a.2 }); said = said }
     reached (Err halt.Write) is said =
         let a = as_is (Err halt.Write) is in
         record { bytes = r.answers.bytes; read = read; lines = a.1.0; are_read = a.1.1; put = a.1.2; said = said }

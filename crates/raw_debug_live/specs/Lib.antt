@@ -1,7 +1,6 @@
 -- What the contracts of this crate cite.
 pub mod Bytes
 pub mod Answering
-pub mod Heads
 pub mod Serving
 pub mod Words
 pub mod Promises

@@ -10,10 +10,12 @@ use Rattle.raw_debug.specs.Live.{answers}
 use Rattle.raw_shell.specs.declared.failure.Failure.TheVariants.{Refused, ReadFault, WriteFault, Memory, TooLong}
 use Rattle.raw_shell.specs.Answers as shell
 use Rattle.raw_shell.specs.Seen.{Seen, SourceSeen, SinkSeen, ReadFails, Untouched, Says, GivesOneTooMany}
-use Rattle.raw_debug_live.specs.declared.answer.LineFlaw.{LineFlaw}
-use Rattle.raw_debug_live.specs.declared.begin.Begun.{Begun}
+use Rattle.raw_live_head.specs.declared.flaw.LineFlaw.{LineFlaw}
+use Rattle.raw_live_head.specs.declared.beginning.Begun.{Begun}
+use Rattle.raw_live_head.specs.Flaws.{Failure, flaw_line}
+use Rattle.raw_live_head.specs.Beginning.{Begins, StopsInHead}
 use Rattle.raw_debug_live.specs.Answering.{AllPut, FailsIn, AreRead}
-use Rattle.raw_debug_live.specs.Serving.{labels_of, Failure, flaw_line, Begins, StopsInHead, Ended}
+use Rattle.raw_debug_live.specs.Serving.{script_word, labels_of, Ended}
 
 -- the line on err of a call that did not answer to the end
 abbrev pub err_line : Failure → List ℕ
@@ -23,7 +25,7 @@ err_line failure = shell.err_line flaw_line failure
 pub record Reads (source : SourceSeen) (bytes : List ℕ) : Type 0 where
   pub between : SourceSight
   pub begun : Begun
-  pub begins : Begins source.old between begun
+  pub begins : Begins script_word 1 source.old between begun
   pub taken : Consumes between.left source.new.left bytes
 
 -- Each line that was read whole is answered, by its newline; of the bytes behind the last newline nothing is written.
@@ -43,7 +45,7 @@ pub record AnswersAll (seen : Seen) : Type 0 where
 -- The set, or a line before those that are answered, is refused at its own place, and nothing was written.
 pub record RefusesHead (seen : Seen) : Type 0 where
   pub flaw : LineFlaw
-  pub refused : StopsInHead seen.source (Refused flaw)
+  pub refused : StopsInHead script_word 1 seen.source (Refused flaw)
   pub untouched : Untouched seen.out
   pub said : Says seen.err (err_line (Refused flaw))
 

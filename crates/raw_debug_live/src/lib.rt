@@ -5,13 +5,11 @@
 
 mod answer;
 mod answering;
-mod begin;
 mod byte;
-mod head;
+mod labels;
 mod line;
 mod top;
 mod words;
 
-pub use answer::LineFlaw;
 pub use top::live_debug;
 pub use words::asks_live;

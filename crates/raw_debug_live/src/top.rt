@@ -4,11 +4,12 @@ ghost use Rattle.raw_debug_live.specs.Serving.{answer_of, Serves, Ended};
 ghost use Rattle.raw_debug_live.specs.Promises.{Promises};
 ghost use Rattle.std.specs.Prelude.{◌≡◌};
 
-use crate::answer::{Answer, Failure};
+use crate::answer::Answer;
 use crate::answering::{Halt, answer_lines};
-use crate::begin::{begin, labels_of};
+use crate::labels::labels_of;
 use raw_debug::Debugger;
 use raw_io::{Sink, Source};
+use raw_live_head::{Failure, begin};
 use raw_shell::{CommandEnding, conclude};
 use raw_text::MAX_TEXT;
 use std::alloc::Global;
@@ -29,7 +30,7 @@ fn answer_of(answered: Result<(), Halt>) -> Answer
 fn serve<S: Source, K: Sink>(alloc: Global, source: &mut S, out: &mut K) -> Answer
     ensures { Serves (source_seen S.sight source.old source.new) (sink_seen K.sight out.old out.new) result }
 {
-    let begun = match begin(alloc, source) {
+    let begun = match begin(alloc, b"script", 1, source) {
         Ok(begun) => begun,
         Err(failure) => return Err(failure),
     };

@@ -19,18 +19,20 @@ use Rattle.raw_live.specs.Judging.{IsIntakeOf}
 use Rattle.raw_shell.specs.declared.failure.Failure.TheVariants.{Use, Refused, ReadFault, WriteFault, Memory, TooLong}
 use Rattle.raw_shell.specs.Answers.{failure_status}
 use Rattle.raw_shell.specs.Seen.{SourceSeen, SinkSeen, ReadFails, WriteFails, GivesTooMany, limit}
-use Rattle.raw_live_run.specs.declared.answer.LineFlaw.TheVariants.{Set, Put}
-use Rattle.raw_live_run.specs.Answers.{Answer, Failure, status_of}
+use Rattle.raw_live_head.specs.declared.flaw.LineFlaw.TheVariants.{Set, Put}
+use Rattle.raw_live_head.specs.Flaws.{Failure}
+use Rattle.raw_live_run.specs.Answers.{Answer, status_of}
 use Rattle.raw_live_run.specs.Call.{Call, IsRestStatus}
 use Rattle.raw_set_text.specs.declared.kind.SetKind.{SetKind}
-use Rattle.raw_live_run.specs.Beginning.{HeadCause, StopsInHead, FaultBeforeMark, FaultWithoutMark}
-use Rattle.raw_live_run.specs.Live.{Live, SaysWords, put_by, AreRead}
+use Rattle.raw_live_head.specs.Beginning.{HeadCause, StopsInHead, FaultBeforeMark, FaultWithoutMark}
+use Rattle.raw_live_run.specs.Live.{live_word, Live, SaysWords, put_by, AreRead}
 use Rattle.raw_live_run.specs.Serving.{EndsInHead, Ended}
 use Rattle.raw_live_run.specs.Reaching.{Reached}
 use Rattle.raw_live_run.specs.Promises.{Came, HasCause, IsComplete}
 use Rattle.raw_live_run.proofs.Reaches.{LawsOfLines, take_front}
 use Rattle.raw_live_run.proofs.Told.{low}
 use Rattle.raw_live_run.proofs.Promising.{is_fed}
+use Rattle.raw_live_text.specs.declared.reader.TheConstants.{PIECE}
 
 -- the bytes that were read, and those that are left
 told_split : (left new : Option (List ℕ)) (input bytes : List ℕ) → left ≡ Some input → Consumes left new bytes → (rest : List ℕ) × (input ≡ bytes ++ rest) × (new ≡ Some rest)
@@ -53,16 +55,16 @@ unless_mark (Some (refusal.NotAscii line)) end number at h e = absurd (cc e)
 unless_mark (Some (refusal.LineTooLong line)) end number at h e = absurd (cc e)
 unless_mark _ end number at h e = h e
 
-end_mark : (number at : ℕ) (line : List ℕ) → line_end number line ≡ Mark at → at ≡ number
+end_mark : (number at : ℕ) (line : List ℕ) → line_end live_word number line ≡ Mark at → at ≡ number
 unfolding line_end
-end_mark number at line e = unless_mark (line_fault number line) (word_end number (tokens_of line)) number at (word_mark (is_word (codes "live") (tokens_of line)) number at) e
+end_mark number at line e = unless_mark (line_fault number line) (word_end live_word number (tokens_of line)) number at (word_mark (is_word live_word (tokens_of line)) number at) e
 
 -- a mark stands among the lines
-mark_within : (number n : ℕ) (lines : List (List ℕ)) → head_of number lines ≡ Mark n → (number ≤ n) × (n < number + length lines)
+mark_within : (number n : ℕ) (lines : List (List ℕ)) → head_of live_word number lines ≡ Mark n → (number ≤ n) × (n < number + length lines)
 mark_within number n [] e = absurd (cc e)
-mark_within number n (line ∷ lines) e = by_end (line_end number line) refl (mark_within (number + 1) n lines) e
+mark_within number n (line ∷ lines) e = by_end (line_end live_word number line) refl (mark_within (number + 1) n lines) e
   where
-    by_end : (end : HeadEnd) → line_end number line ≡ end → (head_of (number + 1) lines ≡ Mark n → (number + 1 ≤ n) × (n < number + 1 + length lines)) → first_end end (head_of (number + 1) lines) ≡ Mark n
+    by_end : (end : HeadEnd) → line_end live_word number line ≡ end → (head_of live_word (number + 1) lines ≡ Mark n → (number + 1 ≤ n) × (n < number + 1 + length lines)) → first_end end (head_of live_word (number + 1) lines) ≡ Mark n
         → (number ≤ n) × (n < number + length (line ∷ lines))
     by_end Open is behind e = let later = behind e in (omega (arith, later.0), omega (arith, later.1))
     by_end (Mark at) is behind e = let here = end_mark number at line is in let same : at ≡ n = cc e in (omega (arith, here, same), omega (arith, here, same))
@@ -81,13 +83,13 @@ module _ (laws : LawsOfLines) (one : (lines : List (List (List ℕ))) → IsOneS
       (first.0 ++ all.0, ap lines_of is ∙ all.1 ∙ ap (λ l. l ++ all.0) first.1 ∙ append_assoc (whole_lines bytes) first.0 all.0)
 
   -- lines that are a front of those of the input do not end otherwise
-  no_fault : (front back : List (List ℕ)) (line : ℕ) (kind : LineFault) → lines ≡ front ++ back → head_of 1 front ≡ Fault line kind → ⊥
+  no_fault : (front back : List (List ℕ)) (line : ℕ) (kind : LineFault) → lines ≡ front ++ back → head_of live_word 1 front ≡ Fault line kind → ⊥
   no_fault front back line kind is e =
-      let all : head_of 1 lines ≡ Fault line kind = ap (head_of 1) is ∙ laws.faulty 1 line kind front back e in cc (live.says.mark, all)
+      let all : head_of live_word 1 lines ≡ Fault line kind = ap (head_of live_word 1) is ∙ laws.faulty 1 line kind front back e in cc (live.says.mark, all)
 
-  same_place : (front back : List (List ℕ)) (place : ℕ) → lines ≡ front ++ back → head_of 1 front ≡ Mark (place + 1) → live.says.place ≡ place
+  same_place : (front back : List (List ℕ)) (place : ℕ) → lines ≡ front ++ back → head_of live_word 1 front ≡ Mark (place + 1) → live.says.place ≡ place
   same_place front back place is e =
-      let all : head_of 1 lines ≡ Mark (place + 1) = ap (head_of 1) is ∙ laws.marked 1 (place + 1) front back e in
+      let all : head_of live_word 1 lines ≡ Mark (place + 1) = ap (head_of live_word 1) is ∙ laws.marked 1 (place + 1) front back e in
       let same : live.says.place + 1 ≡ place + 1 = cc (live.says.mark, all) in omega (arith, same)
 
   -- no line behind the mark that was read is faulty
@@ -130,14 +132,14 @@ module _ (laws : LawsOfLines) (one : (lines : List (List (List ℕ))) → IsOneS
     front_of read (inl e) = let w = whole_of bytes rest is in (w.0, w.1 ∙ ap (λ l. l ++ w.0) (sym e))
     front_of read (inr e) = ([], ap lines_of (sym (ended e.0)) ∙ sym e.1 ∙ sym (append-nil read))
 
-    behind_mark : (text more : List ℕ) (m : IsMarked source.new.left bytes text more) → (behind : List (List ℕ)) × (lines ≡ lines_of text ++ m.mark ∷ behind)
+    behind_mark : (text more : List ℕ) (m : IsMarked live_word source.new.left bytes text more) → (behind : List (List ℕ)) × (lines ≡ lines_of text ++ m.mark ∷ behind)
     behind_mark text more m = by_behind m.behind
       where
         by_behind : GoesOn bytes text m.mark more ⊎ IsAtEnd source.new.left × EndsThere bytes text m.mark more → (behind : List (List ℕ)) × (lines ≡ lines_of text ++ m.mark ∷ behind)
         by_behind (inl g) = (lines_of (more ++ rest), ap lines_of is ∙ g.lines rest)
         by_behind (inr e) = ([], ap lines_of (sym (ended e.0)) ∙ e.1.lines)
 
-    no_set_fault : (line : ℕ) (kind : SetKind) → FaultBeforeMark source.new.left bytes line kind → ⊥
+    no_set_fault : (line : ℕ) (kind : SetKind) → FaultBeforeMark live_word source.new.left bytes line kind → ⊥
     no_set_fault line kind f =
         let b = behind_mark f.text f.rest f.marked in
         let front = lines_of f.text in
@@ -146,24 +148,24 @@ module _ (laws : LawsOfLines) (one : (lines : List (List (List ℕ))) → IsOneS
         let before : take live.says.place lines ≡ front = ap (λ n. take n lines) place ∙ ap (take (length front)) b.1 ∙ take_front front (f.marked.mark ∷ b.0) in
         (one (token_lines f.text)).not_both live.says.first line kind (subst (λ l. IsMeaning (map tokens_of l) live.says.first) before live.says.meaning) f.cause
 
-    no_missing : (line : ℕ) (kind : SetKind) → FaultWithoutMark source.new.left bytes line kind → ⊥
+    no_missing : (line : ℕ) (kind : SetKind) → FaultWithoutMark live_word source.new.left bytes line kind → ⊥
     no_missing line kind f =
-        let unmarked : head_of 1 lines ≡ Open = ap (λ b. head_of 1 (lines_of b)) (sym (ended f.end)) ∙ f.open_lines in cc (live.says.mark, unmarked)
+        let unmarked : head_of live_word 1 lines ≡ Open = ap (λ b. head_of live_word 1 (lines_of b)) (sym (ended f.end)) ∙ f.open_lines in cc (live.says.mark, unmarked)
 
   abbrev Served : ℕ → Type 0
   Served status = IsRestStatus status ⊎ (status ≡ 9)
 
-  in_head : (failure : Failure) → StopsInHead source failure → (failure ≡ Memory)
+  in_head : (failure : Failure) → StopsInHead live_word PIECE source failure → (failure ≡ Memory)
   in_head (Refused (Put line kind)) s = absurd (by_cause s.cause)
     where
-      by_cause : (head_of 1 (whole_lines s.bytes) ≡ Fault line kind) ⊎ IsAtEnd source.new.left × (head_of 1 (lines_of s.bytes) ≡ Fault line kind) → ⊥
+      by_cause : (head_of live_word 1 (whole_lines s.bytes) ≡ Fault line kind) ⊎ IsAtEnd source.new.left × (head_of live_word 1 (lines_of s.bytes) ≡ Fault line kind) → ⊥
       by_cause (inl e) = let t = told_split source.old.left source.new.left input s.bytes told s.taken in let w = whole_of s.bytes t.0 t.1 in no_fault (whole_lines s.bytes) w.0 line kind w.1 e
       by_cause (inr e) =
           let t = told_split source.old.left source.new.left input s.bytes told s.taken in
-          let all : head_of 1 lines ≡ Fault line kind = ap (λ b. head_of 1 (lines_of b)) (sym (ended s.bytes t.0 t.1 t.2 e.0)) ∙ e.1 in cc (live.says.mark, all)
+          let all : head_of live_word 1 lines ≡ Fault line kind = ap (λ b. head_of live_word 1 (lines_of b)) (sym (ended s.bytes t.0 t.1 t.2 e.0)) ∙ e.1 in cc (live.says.mark, all)
   in_head (Refused (Set line kind)) s = absurd (by_cause s.cause)
     where
-      by_cause : FaultBeforeMark source.new.left s.bytes line kind ⊎ FaultWithoutMark source.new.left s.bytes line kind → ⊥
+      by_cause : FaultBeforeMark live_word source.new.left s.bytes line kind ⊎ FaultWithoutMark live_word source.new.left s.bytes line kind → ⊥
       by_cause (inl f) = let t = told_split source.old.left source.new.left input s.bytes told s.taken in no_set_fault s.bytes t.0 t.1 t.2 line kind f
       by_cause (inr f) = let t = told_split source.old.left source.new.left input s.bytes told s.taken in no_missing s.bytes t.0 t.1 t.2 line kind f
   in_head ReadFault s = absurd (no_read s.cause.1)
@@ -203,8 +205,8 @@ is_complete laws one call ended = λ workers input set is told live few no_read 
 -- causes
 module _ (source : SourceSeen) (out : SinkSeen) where
   -- why the head was not read, for this failure
-  head_cause : (failure : Failure) (e : EndsInHead source out (Err failure)) → HeadCause source e.stops.bytes failure
-  head_cause failure e = let same : e.failure ≡ failure = cc e.answer_is in subst (HeadCause source e.stops.bytes) same e.stops.cause
+  head_cause : (failure : Failure) (e : EndsInHead source out (Err failure)) → HeadCause live_word source e.stops.bytes failure
+  head_cause failure e = let same : e.failure ≡ failure = cc e.answer_is in subst (HeadCause live_word source e.stops.bytes) same e.stops.cause
 
   read_fault : (answer : Answer) → Came source out answer → status_of answer ≡ 7 → ReadFails source
   read_fault (Ok how) c e = absurd (omega (arith, low how, e))

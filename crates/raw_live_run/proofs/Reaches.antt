@@ -23,14 +23,15 @@ use Rattle.raw_live.specs.Engine.{AreSets}
 use Rattle.raw_live.specs.Due.{live_text}
 use Rattle.raw_live.specs.Judging.{IsIntakeOf}
 use Rattle.raw_live.specs.Lives.{WritesOrFails, LivedAs}
-use Rattle.raw_live_run.specs.declared.begin.Begun.{Begun}
+use Rattle.raw_live_head.specs.declared.beginning.Begun.{Begun}
 use Rattle.raw_shell.specs.declared.failure.Failure.TheVariants.{WriteFault, Memory}
 use Rattle.raw_shell.specs.Seen.{SourceSeen, SinkSeen, ReadFails, limit}
 use Rattle.raw_live_run.specs.Answers.{Answer, answer_of}
-use Rattle.raw_live_run.specs.Beginning.{Begins}
-use Rattle.raw_live_run.specs.Live.{SaysWords, put_by, AreRead}
+use Rattle.raw_live_head.specs.Beginning.{Begins}
+use Rattle.raw_live_run.specs.Live.{live_word, SaysWords, put_by, AreRead}
 use Rattle.raw_live_run.specs.Serving.{LivesOn}
 use Rattle.raw_live_run.specs.Reaching.{AreAllPut, IsReadWhole, IsReadAs, StopsInPiece, IsWrittenAs, Reached}
+use Rattle.raw_live_text.specs.declared.reader.TheConstants.{PIECE}
 
 pub take_front : (xs ys : List (List ℕ)) → take (length xs) (xs ++ ys) ≡ xs
 take_front [] ys = refl
@@ -50,8 +51,8 @@ take_over (x ∷ xs) ys (suc n) within =
 
 -- what `law_heads` says of lines
 pub record LawsOfLines : Type 0 where
-  pub marked : (number line : ℕ) (front back : List (List ℕ)) → head_of number front ≡ Mark line → head_of number (front ++ back) ≡ Mark line
-  pub faulty : (number line : ℕ) (kind : LineFault) (front back : List (List ℕ)) → head_of number front ≡ Fault line kind → head_of number (front ++ back) ≡ Fault line kind
+  pub marked : (number line : ℕ) (front back : List (List ℕ)) → head_of live_word number front ≡ Mark line → head_of live_word number (front ++ back) ≡ Mark line
+  pub faulty : (number line : ℕ) (kind : LineFault) (front back : List (List ℕ)) → head_of live_word number front ≡ Fault line kind → head_of live_word number (front ++ back) ≡ Fault line kind
   pub whole : (bytes : List ℕ) → (rest : List (List ℕ)) × (lines_of bytes ≡ whole_lines bytes ++ rest)
   pub whole_longer : (front back : List ℕ) → (rest : List (List ℕ)) × (whole_lines (front ++ back) ≡ whole_lines front ++ rest)
   pub no_fault : (intake : Intake) → (fed intake []).fault ≡ None
@@ -78,7 +79,7 @@ over input first second (Some xs) None c e d = absurd d
 over input first second (Some xs) (Some ys) c e d =
     let both = empty second ys (sym e ∙ d) in record { none = both.0; ended = both.1 }
 
-module _ (laws : LawsOfLines) (source : SourceSeen) (between : SourceSight) (out : SinkSeen) (begun : Begun) (b : Begins source.old between begun)
+module _ (laws : LawsOfLines) (source : SourceSeen) (between : SourceSight) (out : SinkSeen) (begun : Begun) (b : Begins live_word PIECE source.old between begun)
     (input : List ℕ) (told : source.old.left ≡ Some input) (intake : Intake) (intake_is : IsIntakeOf begun.set intake) (line : intake.line ≡ begun.line) (words : List Item) (more : List ℕ)
     (taken : Consumes between.left source.new.left more) (counted : source.new.given ≡ between.given + length more)
     (ahead : IsPrompt intake begun.rest.items more) (bounded : length more ≤ limit - begun.given + 1) where
@@ -101,7 +102,7 @@ module _ (laws : LawsOfLines) (source : SourceSeen) (between : SourceSight) (out
   abbrev says : (behind : List (List ℕ)) → SaysWords (all_lines behind)
   says behind = record {
     place = length front;
-    mark = subst (λ l. head_of 1 l ≡ Mark (length front + 1)) (append_assoc front (b.marked.mark ∷ []) behind) (laws.marked 1 (length front + 1) (front ++ b.marked.mark ∷ []) behind b.marked.first);
+    mark = subst (λ l. head_of live_word 1 l ≡ Mark (length front + 1)) (append_assoc front (b.marked.mark ∷ []) behind) (laws.marked 1 (length front + 1) (front ++ b.marked.mark ∷ []) behind b.marked.first);
     first = begun.set;
     meaning = subst (λ l. IsMeaning (map tokens_of l) begun.set) (sym (take_front front (b.marked.mark ∷ behind))) b.meaning;
     intake = intake;
@@ -268,7 +269,7 @@ module _ (laws : LawsOfLines) (source : SourceSeen) (between : SourceSight) (out
     by_lived (Err halt.Write) read h l = let r = read_by b.marked.behind (Ok tt) (subst (ReadAs between source.new intake rest most more words) l.0 h) in reached r.0 (Err WriteFault) r.1 l.1
     by_lived (Err halt.Memory) read h l = let r = memory_by b.marked.behind read h in reached r.0 (Err Memory) r.1 l
 
-pub reached_by : (laws : LawsOfLines) (source : SourceSeen) (between : SourceSight) (out : SinkSeen) (begun : Begun) (b : Begins source.old between begun) (answer : Answer)
+pub reached_by : (laws : LawsOfLines) (source : SourceSeen) (between : SourceSight) (out : SinkSeen) (begun : Begun) (b : Begins live_word PIECE source.old between begun) (answer : Answer)
     (input : List ℕ) → source.old.left ≡ Some input → LivesOn (record { old = between; new = source.new }) out begun answer → Reached source out answer
 reached_by laws source between out begun b answer input told on =
     let l = on.lives in

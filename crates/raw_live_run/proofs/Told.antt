@@ -22,7 +22,8 @@ use Rattle.raw_shell.specs.declared.failure.Failure.TheVariants.{Use, Refused, R
 use Rattle.raw_shell.specs.declared.ending.CommandEnding.TheVariants.{Rested}
 use Rattle.raw_shell.specs.Answers.{ending_status, failure_status}
 use Rattle.raw_shell.specs.Seen.{SinkSeen}
-use Rattle.raw_live_run.specs.Answers.{Answer, Failure, status_of}
+use Rattle.raw_live_head.specs.Flaws.{Failure}
+use Rattle.raw_live_run.specs.Answers.{Answer, status_of}
 use Rattle.raw_live_run.specs.Call.{Call, IsRestStatus}
 use Rattle.raw_live_run.specs.Live.{SaysWords, put_by}
 use Rattle.raw_live_run.specs.Reaching.{Reached}

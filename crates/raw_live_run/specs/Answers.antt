@@ -1,25 +1,15 @@
--- How a call of the program ended, the line of what is wrong with a line of its input, and the texts that name the program.
+-- How a call of the program ended, and the texts that name the program.
 use Rattle.std.specs.Prelude.{List, ◌++◌, ℕ, codes, Result, Ok, Err}
-use Rattle.raw_set_text.specs.Kinds.{set_kind_text}
-use Rattle.raw_live_text.specs.Kinds.{line_fault_text}
 use Rattle.raw_model.specs.declared.ending.Ending.{Ending}
-use Rattle.raw_live_text.specs.declared.stop.Stop.{Stop}
-use Rattle.raw_live_text.specs.declared.stop.Stop.TheVariants as stop
 use Rattle.raw_live.specs.declared.live.Halt.{Halt}
 use Rattle.raw_live.specs.declared.live.Halt.TheVariants as halt
 use Rattle.raw_shell.specs.declared.ending.CommandEnding.TheVariants.{Rested}
-use Rattle.raw_shell.specs.declared.failure.Failure.{Failure as FailureOf}
-use Rattle.raw_shell.specs.declared.failure.Failure.TheVariants.{Refused, ReadFault, WriteFault, Memory, TooLong}
+use Rattle.raw_shell.specs.declared.failure.Failure.TheVariants.{WriteFault, Memory}
 use Rattle.raw_shell.specs.declared.arguments.FixedText.{FixedText}
-use Rattle.raw_shell.specs.Answers.{refused_line}
 use Rattle.raw_shell.specs.Answers as shell
 use Rattle.raw_shell.specs.Arguments as words
-use Rattle.raw_live_run.specs.declared.answer.LineFlaw.{LineFlaw}
-use Rattle.raw_live_run.specs.declared.answer.LineFlaw.TheVariants.{Set, Put}
-
--- why the input was not fed or shown to the end
-abbrev pub Failure : Type 0
-Failure = FailureOf LineFlaw
+use Rattle.raw_live_head.specs.declared.flaw.LineFlaw.{LineFlaw}
+use Rattle.raw_live_head.specs.Flaws.{Failure, failure_of}
 
 -- how a call of the program ended: as the grid came to rest, or why it was not fed or shown to the end
 abbrev pub Answer : Type 0
@@ -34,24 +24,12 @@ as_program_answer (Err failure) = Err failure
 abbrev pub status_of : Answer → ℕ
 status_of answer = shell.status_of (as_program_answer answer)
 
--- why the reading of lines stopped, as a failure
-abbrev pub failure_of : Stop → Failure
-failure_of (stop.At line kind) = Refused (Put line kind)
-failure_of stop.Read = ReadFault
-failure_of stop.TooLong = TooLong
-failure_of stop.Memory = Memory
-
 -- what became of live input, as an answer
 abbrev pub answer_of : Result Ending Halt → Answer
 answer_of (Ok how) = Ok how
 answer_of (Err (halt.Stopped why)) = Err (failure_of why)
 answer_of (Err halt.Write) = Err WriteFault
 answer_of (Err halt.Memory) = Err Memory
-
--- the line on err of a faulty line: its number, and what is wrong with it
-abbrev pub flaw_line : LineFlaw → List ℕ
-flaw_line (Set line kind) = refused_line (codes "refused line ") line (set_kind_text kind)
-flaw_line (Put line kind) = refused_line (codes "refused line ") line (line_fault_text kind)
 
 -- what `--help` writes
 unfoldable pub help_text : List ℕ

@@ -2,7 +2,6 @@
 pub mod Arguments
 pub mod Answers
 pub mod Call
-pub mod Beginning
 pub mod Serving
 pub mod Live
 pub mod Reaching

@@ -1,5 +1,5 @@
 -- What live input says: a set, and the words that its sources are given while it runs.
-use Rattle.std.specs.Prelude.{◌≡◌, ◌⊎◌, ℕ, ◌+◌, List, map, take, drop, Option, None}
+use Rattle.std.specs.Prelude.{◌≡◌, ◌⊎◌, ℕ, ◌+◌, List, map, take, drop, codes, Option, None}
 use Rattle.std.specs.Io.KnownBytes.{IsAtEnd}
 use Rattle.raw_text.specs.Lines.{lines_of, tokens_of}
 use Rattle.raw_model.specs.Program.{ProgramSet}
@@ -11,12 +11,16 @@ use Rattle.raw_live_text.specs.Heads.{head_of}
 use Rattle.raw_live.specs.Engine.{with_items}
 use Rattle.raw_live.specs.Judging.{IsIntakeOf}
 
+-- the word that stands alone in the mark behind the set
+abbrev pub live_word : List ℕ
+live_word = codes "live"
+
 -- Lines say a set and words. The first of them that is the word `live` alone stands behind lines that mean a set,
 -- and no line before it is faulty as a line of text. Those behind it put words for the sources of the set, up to
 -- the first fault.
 pub record SaysWords (lines : List (List ℕ)) : Type 0 where
   pub place : ℕ
-  pub mark : head_of 1 lines ≡ Mark (place + 1)
+  pub mark : head_of live_word 1 lines ≡ Mark (place + 1)
   pub first : ProgramSet
   pub meaning : IsMeaning (map tokens_of (take place lines)) first
   pub intake : Intake

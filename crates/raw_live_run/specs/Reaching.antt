@@ -13,9 +13,9 @@ use Rattle.raw_live.specs.Due.{live_text, due_text}
 use Rattle.raw_live.specs.Lives.{WritesOrFails, FailsIn, WritesToRest}
 use Rattle.raw_shell.specs.declared.failure.Failure.TheVariants.{Use, Refused, ReadFault, WriteFault, Memory, TooLong}
 use Rattle.raw_shell.specs.Seen.{SourceSeen, SinkSeen, ReadFails, limit}
-use Rattle.raw_live_run.specs.declared.answer.LineFlaw.TheVariants.{Put}
+use Rattle.raw_live_head.specs.declared.flaw.LineFlaw.TheVariants.{Put}
 use Rattle.raw_live_run.specs.Answers.{Answer}
-use Rattle.raw_live_run.specs.Live.{SaysWords, put_by, AreRead}
+use Rattle.raw_live_run.specs.Live.{live_word, SaysWords, put_by, AreRead}
 
 -- the words were put by lines without a fault
 abbrev pub AreAllPut : Fed → List Item → Type 0
@@ -46,7 +46,7 @@ pub record StopsInPiece {lines : List (List ℕ)} (says : SaysWords lines) (byte
   pub piece : List ℕ
   pub is : bytes ≡ front ++ piece
   pub short : IsPiece piece
-  pub open_yet : (head_of 1 (whole_lines front) ≡ Open) ⊎ ((fed says.intake (drop (says.place + 1) (whole_lines front))).fault ≡ None)
+  pub open_yet : (head_of live_word 1 (whole_lines front) ≡ Open) ⊎ ((fed says.intake (drop (says.place + 1) (whole_lines front))).fault ≡ None)
 
 -- what was written, by the answer: all that is due, all of its lines but the last, or a front
 abbrev pub IsWrittenAs : SinkSeen → ProgramSet → List Item → Answer → Type 0

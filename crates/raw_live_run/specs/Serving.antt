@@ -14,10 +14,13 @@ use Rattle.raw_shell.specs.Answers.{Said}
 use Rattle.raw_shell.specs.Seen.{SourceSeen, SinkSeen, Unread, Untouched, limit}
 use Rattle.raw_live_run.specs.declared.arguments.Command.{Command}
 use Rattle.raw_live_run.specs.declared.arguments.Command.TheVariants.{Fixed, Feed}
-use Rattle.raw_live_run.specs.declared.begin.Begun.{Begun}
-use Rattle.raw_live_run.specs.Answers.{Answer, Failure, fixed_text_of, answer_of, status_of, as_program_answer, flaw_line}
-use Rattle.raw_live_run.specs.Beginning.{Begins, StopsInHead}
+use Rattle.raw_live_head.specs.declared.beginning.Begun.{Begun}
+use Rattle.raw_live_head.specs.Flaws.{Failure, flaw_line}
+use Rattle.raw_live_run.specs.Answers.{Answer, fixed_text_of, answer_of, status_of, as_program_answer}
+use Rattle.raw_live_head.specs.Beginning.{Begins, StopsInHead}
 use Rattle.raw_live_run.specs.Call.{Call}
+use Rattle.raw_live_run.specs.Live.{live_word}
+use Rattle.raw_live_text.specs.declared.reader.TheConstants.{PIECE}
 
 -- what was read behind the mark is within the limit
 pub record IsReady (begun : Begun) : Type 0 where
@@ -47,14 +50,14 @@ FedOn source out begun answer = LivesOn source out begun answer ⊎ WantsMemory 
 pub record EndsInHead (source : SourceSeen) (out : SinkSeen) (answer : Answer) : Type 0 where
   pub failure : Failure
   pub answer_is : answer ≡ Err failure
-  pub stops : StopsInHead source failure
+  pub stops : StopsInHead live_word PIECE source failure
   pub untouched : Untouched out
 
 -- the head was read, and then the lines behind it
 pub record ReachesMark (source : SourceSeen) (out : SinkSeen) (answer : Answer) : Type 0 where
   pub between : SourceSight
   pub begun : Begun
-  pub begins : Begins source.old between begun
+  pub begins : Begins live_word PIECE source.old between begun
   pub fed : FedOn (record { old = between; new = source.new }) out begun answer
 
 -- what feeding a grid comes to

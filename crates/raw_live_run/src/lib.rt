@@ -7,8 +7,7 @@
 
 mod answer;
 mod arguments;
-mod begin;
 mod top;
 
-pub use answer::LineFlaw;
+pub use raw_live_head::LineFlaw;
 pub use top::live_main;

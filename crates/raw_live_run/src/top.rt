@@ -9,12 +9,12 @@ ghost use Rattle.raw_live_run.specs.Answers.{fixed_text_of, help_text, version_t
 ghost use Rattle.raw_live_run.specs.Promises.{Headline, Promises};
 ghost use Rattle.raw_live_run.specs.Serving.{IsReady, FedOn, Feeds, Serves, Ended};
 
-use crate::answer::{Answer, Failure, as_program_answer};
+use crate::answer::{Answer, as_program_answer};
 use crate::arguments::{Command, command_in};
-use crate::begin::{Begun, begin, failure_of};
 use raw_io::{Sink, Source, put_all};
 use raw_live::{Engine, Halt, Runner, Tail, feed_live, intake_of, law_due, law_gots};
-use raw_live_text::law_heads;
+use raw_live_head::{Begun, Failure, begin, failure_of};
+use raw_live_text::{PIECE, law_heads};
 use raw_model::Ending;
 use raw_set_text::law_one_answer;
 use raw_shell::{FixedText, conclude};
@@ -126,7 +126,7 @@ fn feed<R: Threads + Clock + Wait + Sync, S: Source + Send, K: Sink + Send, G: G
     ensures { Feeds
         (source_seen S.sight source.old source.new) (sink_seen K.sight out.old out.new) result }
 {
-    match begin(alloc, source) {
+    match begin(alloc, b"live", PIECE, source) {
         Ok(begun) => feed_on(rt, alloc, begun, runner, source, out),
         Err(failure) => Err(failure),
     }

@@ -9,16 +9,16 @@ ghost use Rattle.raw_live_text.specs.Heads.{head_of, IsFaultOf};
 
 /// What the lines of a head and those behind `live` mean stays, whatever lines follow.
 pub fn law_heads()
-    ensures unended { (number : ℕ) (front back : List (List ℕ)) → head_of number front ≡ Open →
-        head_of number (front ++ back) ≡ head_of (number + length front) back }
-    ensures marked { (number line : ℕ) (front back : List (List ℕ)) → head_of number front ≡ Mark line →
-        head_of number (front ++ back) ≡ Mark line }
-    ensures faulty { (number line : ℕ) (kind : LineFault) (front back : List (List ℕ)) →
-        head_of number front ≡ Fault line kind → head_of number (front ++ back) ≡ Fault line kind }
-    ensures faultless { (number : ℕ) (lines : List (List ℕ)) → head_of number lines ≡ Open →
+    ensures unended { (word : List ℕ) (number : ℕ) (front back : List (List ℕ)) → head_of word number front ≡ Open →
+        head_of word number (front ++ back) ≡ head_of word (number + length front) back }
+    ensures marked { (word : List ℕ) (number line : ℕ) (front back : List (List ℕ)) → head_of word number front ≡ Mark line →
+        head_of word number (front ++ back) ≡ Mark line }
+    ensures faulty { (word : List ℕ) (number line : ℕ) (kind : LineFault) (front back : List (List ℕ)) →
+        head_of word number front ≡ Fault line kind → head_of word number (front ++ back) ≡ Fault line kind }
+    ensures faultless { (word : List ℕ) (number : ℕ) (lines : List (List ℕ)) → head_of word number lines ≡ Open →
         first_fault number lines ≡ None }
-    ensures fault { (number line : ℕ) (kind : LineFault) (lines : List (List ℕ)) →
-        head_of number lines ≡ Fault line kind → IsFaultOf line kind (first_fault number lines) }
+    ensures fault { (word : List ℕ) (number line : ℕ) (kind : LineFault) (lines : List (List ℕ)) →
+        head_of word number lines ≡ Fault line kind → IsFaultOf line kind (first_fault number lines) }
 
     // The whole lines of bytes are the first of their lines, and stay so.
     ensures whole { (bytes : List ℕ) →

@@ -19,5 +19,5 @@ pub use head::{Head, HeadEnd, read_head};
 pub use intake::Intake;
 pub use laws::law_heads;
 pub use put::Put;
-pub use reader::read_puts;
+pub use reader::{PIECE, read_puts};
 pub use stop::Stop;

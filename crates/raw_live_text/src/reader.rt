@@ -20,7 +20,7 @@ use std::alloc::Global;
 use std::sync::Wait;
 
 /// The most bytes that one call of a source is asked for.
-pub(crate) const PIECE: usize = 4096;
+pub const PIECE: usize = 4096;
 
 // Asks a source for more that gave so many bytes behind `rest`: only once the words of all lines that are whole with them
 // were put.

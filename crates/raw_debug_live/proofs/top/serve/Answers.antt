@@ -1,5 +1,5 @@
 use Rattle.std.proofs.Common.{refl, ap, inl, inr}
-use Rattle.raw_debug_live.proofs.Begun.{answers_of}
+use Rattle.raw_debug_live.proofs.Answered.{answers_of}
 use Rattle.raw_debug.specs.Live.{Session}
 use Rattle.raw_debug_live.proofs.top.serve.Goals as goal
 

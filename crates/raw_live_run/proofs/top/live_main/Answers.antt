@@ -1,4 +1,5 @@
 use Rattle.std.proofs.Common.{ap}
+use Rattle.raw_live_run.specs.Live.{live_word}
 use Rattle.raw_live_run.proofs.Reaches.{LawsOfLines}
 use Rattle.raw_live_run.proofs.Told.{LawsOfGots, LawsOfDue}
 use Rattle.raw_live_run.proofs.Completing.{has_cause, is_complete}
@@ -8,8 +9,8 @@ use Rattle.raw_live_run.proofs.top.live_main.Goals as goal
 pub returns : goal.returns
 returns g c =
     let lines : LawsOfLines = record {
-      marked = c.law_heads.ensures.marked;
-      faulty = c.law_heads.ensures.faulty;
+      marked = c.law_heads.ensures.marked live_word;
+      faulty = c.law_heads.ensures.faulty live_word;
       whole = c.law_heads.ensures.whole;
       whole_longer = c.law_heads.ensures.whole_longer;
       no_fault = λ intake. ap (λ s. s.fault) (c.law_heads.ensures.none intake);

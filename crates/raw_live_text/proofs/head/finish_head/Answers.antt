@@ -5,12 +5,12 @@ use Rattle.raw_live_text.proofs.head.finish_head.Goals as goal
 
 pub returns-in-Ok-Open : goal.returns-in-Ok-Open
 returns-in-Ok-Open c =
-    (search rules, λ left end. end_open_at c.args.bytes.items c.args.place c.requires.stands left end (tail_end _ _ c.args.place _ c.deref.ensures.value (sym c.in-Ok-Open.ensures ∙ c.in-Ok-Open.field-0-is)))
+    (search rules, λ left end. end_open_at c.args.word.now c.args.bytes.items c.args.place c.requires.stands left end (tail_end c.args.word.now _ _ c.args.place _ c.deref.ensures.value (sym c.in-Ok-Open.ensures ∙ c.in-Ok-Open.field-0-is)), tt)
 
 pub returns-in-Ok-Mark : goal.returns-in-Ok-Mark
 returns-in-Ok-Mark c =
-    cuts_last c.args.bytes.items c.args.place c.requires.stands _ c.len-behind.result c.cut.result (search rules) (tail_end _ _ c.args.place _ c.deref.ensures.value (sym c.in-Ok-Mark.ensures ∙ c.in-Ok-Mark.field-0-is)) c.cut.ensures
+    cuts_last c.args.word.now c.args.bytes.items c.args.place c.requires.stands _ c.len-behind.result c.cut.result (search rules) (tail_end c.args.word.now _ _ c.args.place _ c.deref.ensures.value (sym c.in-Ok-Mark.ensures ∙ c.in-Ok-Mark.field-0-is)) c.cut.ensures
 
 pub returns-in-Ok-Fault : goal.returns-in-Ok-Fault
 returns-in-Ok-Fault c =
-    end_faults_at c.args.bytes.items c.args.place c.requires.stands _ _ (tail_end _ _ c.args.place _ c.deref.ensures.value (sym c.in-Ok-Fault.ensures ∙ c.in-Ok-Fault.field-0-is))
+    end_faults_at c.args.word.now c.args.bytes.items c.args.place c.requires.stands _ _ (tail_end c.args.word.now _ _ c.args.place _ c.deref.ensures.value (sym c.in-Ok-Fault.ensures ∙ c.in-Ok-Fault.field-0-is))

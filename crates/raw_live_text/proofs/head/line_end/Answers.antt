@@ -7,7 +7,7 @@ use Rattle.raw_live_text.proofs.HeadLines.{empty_open, end_by_word, end_not_asci
 use Rattle.raw_live_text.proofs.head.line_end.Goals as goal
 
 pub returns-then-is_empty : goal.returns-then-is_empty
-returns-then-is_empty c = empty_open c.args.number c.args.line.now (grind (arith, nat_tests, c.is_empty.ensures, c.if-is_empty.true))
+returns-then-is_empty c = empty_open c.args.word.now c.args.number c.args.line.now (grind (arith, nat_tests, c.is_empty.ensures, c.if-is_empty.true))
 
 pub word_end-requires : goal.word_end-requires
 word_end-requires c =
@@ -22,13 +22,13 @@ returns-in-Ok-read_text c =
     let same : c.in-Ok.bytes.items ≡ c.args.line.now = c.in-Ok.ensures.items_if_clones_equal (λ x y e. e) in
     let is = text_is c.args.line.now c.requires.free some _ (c.in-Ok-read_text.ensures.lines ∙ ap (λ l. map tokens_of (lines_of l)) same) in
     let none = sym (the_fault c.args.line.now c.requires.free some) ∙ ap (λ l. first_fault 1 (lines_of l)) (sym same) ∙ c.in-Ok-read_text.ensures.faultless in
-    c.word_end.ensures ∙ ap (λ l. word_end c.args.number (slice_index_or l 0 [])) is ∙ end_by_word c.args.number c.args.line.now none
+    c.word_end.ensures ∙ ap (λ l. word_end c.args.word.now c.args.number (slice_index_or l 0 [])) is ∙ end_by_word c.args.word.now c.args.number c.args.line.now none
 
 pub returns-in-Err-NotAscii : goal.returns-in-Err-NotAscii
 returns-in-Err-NotAscii c =
     let some : 0 < length c.args.line.now = grind (arith, nat_tests, c.is_empty.ensures, c.if-is_empty.false) in
     let same : c.in-Ok.bytes.items ≡ c.args.line.now = c.in-Ok.ensures.items_if_clones_equal (λ x y e. e) in
-    end_not_ascii c.args.number c.args.line.now _
+    end_not_ascii c.args.word.now c.args.number c.args.line.now _
     (sym (the_fault c.args.line.now c.requires.free some) ∙ ap (λ l. first_fault 1 (lines_of l)) (sym same)
     ∙ subst (λ f. IsCause f (first_fault 1 (lines_of c.in-Ok.bytes.items))) c.in-Err-NotAscii.field-0-is c.in-Err-NotAscii.ensures.cause)
 
@@ -36,6 +36,6 @@ pub returns-in-Err-LineTooLong : goal.returns-in-Err-LineTooLong
 returns-in-Err-LineTooLong c =
     let some : 0 < length c.args.line.now = grind (arith, nat_tests, c.is_empty.ensures, c.if-is_empty.false) in
     let same : c.in-Ok.bytes.items ≡ c.args.line.now = c.in-Ok.ensures.items_if_clones_equal (λ x y e. e) in
-    end_long c.args.number c.args.line.now _
+    end_long c.args.word.now c.args.number c.args.line.now _
     (sym (the_fault c.args.line.now c.requires.free some) ∙ ap (λ l. first_fault 1 (lines_of l)) (sym same)
     ∙ subst (λ f. IsCause f (first_fault 1 (lines_of c.in-Ok.bytes.items))) c.in-Err-LineTooLong.field-0-is c.in-Err-LineTooLong.ensures.cause)

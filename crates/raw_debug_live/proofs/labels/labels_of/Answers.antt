@@ -2,7 +2,7 @@ use Rattle.std.proofs.Common.{◌≡◌, length, ap, ◌∙◌, arith, take_all}
 use Rattle.raw_text.specs.Text.{text_lines}
 use Rattle.raw_lines.specs.Placing.{label_places}
 use Rattle.raw_debug_live.specs.Serving.{labels_of}
-use Rattle.raw_debug_live.proofs.begin.labels_of.Goals as goal
+use Rattle.raw_debug_live.proofs.labels.labels_of.Goals as goal
 
 pub returns : goal.returns
 returns c =

@@ -1,8 +1,8 @@
 use Rattle.std.proofs.Common.{◌≡◌, ◌∙◌, codes, sym, ap, ap₂, subst}
 use Rattle.raw_io.specs.Writing.{Writes}
 use Rattle.raw_shell.specs.Answers.{refused_line}
-use Rattle.raw_live_run.specs.Answers.{flaw_line}
-use Rattle.raw_live_run.proofs.answer.LineFlawFlaw.put_line.Goals as goal
+use Rattle.raw_live_head.specs.Flaws.{flaw_line}
+use Rattle.raw_live_head.proofs.flaw.LineFlawFlaw.put_line.Goals as goal
 
 pub returns-in-Set : goal.returns-in-Set
 returns-in-Set g c =
