@@ -9,7 +9,7 @@ use Rattle.raw_claim_text.specs.Placing.{SaidPlaces, said_places, said_in}
 
 -- a claim that is being built, for these lines behind the mark
 pub record ClaimStands (topo : Topology) (builder : ClaimBuilder) (lines : List (List (List ℕ))) : Type 0 where
-  pub flow : flow.ClaimStands builder.flow (said_in lines)
+  pub flow : flow.BuilderStands builder.flow (said_in lines)
   pub plain : builder.plain ≡ (said_places topo lines).plain
   pub places : builder.places.items ≡ (said_places topo lines).places
 

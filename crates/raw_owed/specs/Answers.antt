@@ -80,4 +80,4 @@ version_text = codes "rawgrid 0.2.0\n"
 
 -- what a fixed text is
 abbrev pub fixed_text_of : FixedText → List ℕ
-fixed_text_of text = words.fixed_text_of help_text version_text text
+fixed_text_of text = words.fixed_text_by help_text version_text text
