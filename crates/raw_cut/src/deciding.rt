@@ -6,10 +6,11 @@ ghost use Rattle.raw_cut.specs.Parts.{IsSameBut};
 
 use crate::cut::Cut;
 use crate::fitting::see_rows;
-use crate::leading::{leads, rests, widths_of};
+use crate::leading::{leads, rests};
 use crate::nodes::{are_nodes, known, open_inputs};
 use crate::proof::LiveProof;
 use crate::standing::cut_at;
+use crate::widths::widths_of;
 use raw_model::Set;
 use raw_prove::open;
 use raw_stream::StreamFlow;

@@ -1,11 +1,9 @@
 //! Runs with terms from a cut.
-ghost use Rattle.std.specs.Prelude.{◌≡◌, ◌+◌, ◌*◌, ◌≤◌, true, length, map, take, drop, IfOk, IfSome};
-ghost use Rattle.std.specs.List.{filter_map};
+ghost use Rattle.std.specs.Prelude.{◌≡◌, ◌+◌, ◌*◌, true, length, map, take, drop, IfOk, IfSome};
 ghost use Rattle.raw_grid.specs.Topology.{tile_count};
 ghost use Rattle.raw_model.specs.Program.{IsSet};
 ghost use Rattle.raw_flow.specs.declared.node.Node.TheVariants as node;
-ghost use Rattle.raw_stream.specs.Streams.{first_of, first_words};
-ghost use Rattle.raw_term.specs.declared.limits.TheConstants.{MAX_TERMS};
+ghost use Rattle.raw_stream.specs.Streams.{first_words};
 ghost use Rattle.raw_rows.specs.Given.{row_width};
 ghost use Rattle.raw_rows.specs.Kernels.{open_rows, carried_in, begun, run_set, roomy_set, Leads, Arrives, HasDue, RestsSeeing, passed, placed_cut, unknown};
 ghost use Rattle.raw_prove.specs.Units.{state_of};
@@ -22,52 +20,15 @@ use crate::nodes::{open_inputs, place_all};
 use crate::numbers::numbers_from;
 use crate::passing::{Passed, pass_rows};
 use crate::resting::{have_due, is_quiet};
-use crate::rows::{carried_count, input_rows, push_joined, row_width};
+use crate::rows::{input_rows, push_joined};
 use crate::stepping::go_along;
+use crate::widths::{Widths, input_count, widths_of};
 use raw_flow::Node;
 use raw_model::Set;
 use raw_prove::Machine;
 use raw_stream::StreamFlow;
-use raw_term::{MAX_TERMS, TermRefusal, TermTable};
+use raw_term::{TermRefusal, TermTable};
 use std::alloc::{AllocError, Global};
-
-/// How many words are carried, and how many a row has: no more than a table has terms.
-#[derive(Clone, Copy, Drop)]
-pub struct Widths {
-    pub carried: u32,
-    pub row: u32,
-    pub ghost few_carried: { carried ≤ MAX_TERMS },
-    pub ghost few: { row ≤ MAX_TERMS },
-}
-
-/// The widths of a stream. None where a table has no room for them.
-pub fn widths_of(stream: &StreamFlow) -> Option<Widths>
-    ensures carried { IfSome result (λ w. w.carried ≡ length (first_words stream.now)) }
-    ensures row { IfSome result (λ w. w.row ≡ row_width stream.now) }
-{
-    let most = MAX_TERMS as usize;
-    let carried = carried_count(&stream.nodes);
-    let row = row_width(&stream.nodes);
-    if carried > most || row > most {
-        return None;
-    }
-    Some(Widths {
-        carried: carried as u32,
-        row: row as u32,
-    })
-}
-
-/// How many words are carried and stand in so many rows. None where a table has no room for them.
-pub(crate) fn input_count(widths: Widths, rows: u32) -> Option<u32>
-    ensures value { IfSome result (λ count. count ≡ widths.carried + rows * widths.row) }
-    ensures few { IfSome result (λ count. count ≤ MAX_TERMS) }
-{
-    let count = u64::from(widths.carried) + u64::from(rows) * u64::from(widths.row);
-    if count > u64::from(MAX_TERMS) {
-        return None;
-    }
-    Some(count as u32)
-}
 
 /// The terms of what is carried, in a table.
 pub(crate) fn carried_in(

@@ -3,13 +3,13 @@ ghost use Rattle.std.specs.Prelude.{◌≡◌, length};
 ghost use Rattle.raw_grid.specs.Wires.{wires_of};
 
 use crate::cut::{Cut, CutLocal, CutPort};
-use crate::leading::{input_count, widths_of};
 use crate::nodes::carried_out;
 use crate::numbers::numbers_from;
 use crate::passing::{Passed, pass_rows};
 use crate::ports::due_at;
 use crate::rows::input_rows;
 use crate::standing::{terms_in, units_at, wires_at};
+use crate::widths::{input_count, widths_of};
 use raw_flow::Node;
 use raw_model::Set;
 use raw_prove::Machine;
