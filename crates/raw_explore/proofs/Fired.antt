@@ -6,7 +6,7 @@ use Rattle.raw_network.specs.Network.{Sent, fronts, step, event_of, event_from}
 use Rattle.raw_network.proofs.Kth.{after_is}
 use Rattle.raw_tile_isa.specs.Instruction.{Instruction}
 use Rattle.raw_model.specs.Program.{ProgramSet}
-use Rattle.raw_model.specs.Local.{Local, Tile}
+use Rattle.raw_model.specs.Local.{Local, TileLocal, Tile}
 use Rattle.raw_model.specs.Machine.{machine_of, takes, tile_code, first_operand, second_operand}
 use Rattle.raw_model.specs.TileTable.{next_instruction, effect_of}
 use Rattle.raw_model.specs.Start.{MachineState}
@@ -17,20 +17,19 @@ use Rattle.raw_trace.specs.declared.entry.Entry.TheVariants as entry
 use Rattle.raw_trace.specs.Parts.{regs_of, is_faulted}
 use Rattle.raw_trace.specs.Firing.{sent_entry, register_entries, access_entries, miss_entries, written_register, stores_next, entries_from, step_entries}
 
+-- what the row of an instruction touches lies in the memory
+next_inside : (o : Option Instruction) (size : ℕ) (l : TileLocal) (a b : ℕ) → IfSome (effect_of o size l a b).touched (λ address. address < 2 ^ 16)
+next_inside None size l a b = tt
+next_inside (Some ins) size l a b = touched_inside ins.op size l ins a b
+
 -- what a step touches lies in the memory
 pub touched_there : (g : ProgramSet) (wires : List (List ℕ)) (p : ℕ) (o : Option Local)
     → IfSome (event_from (machine_of g) wires p o).touched (λ address. address < 2 ^ 16)
 unfolding machine_of
-touched_there g wires p (Some (Tile l)) = by_next (next_instruction (tile_code g p) l)
-  where
-    values : List ℕ
-    values = fronts (takes g p (Tile l)) wires
-
-    by_next : (o : Option Instruction)
-        → IfSome (effect_of o (length (tile_code g p)) l (first_operand o l.regs values) (second_operand o l.regs values)).touched (λ address. address < 2 ^ 16)
-    by_next None = tt
-    by_next (Some ins) =
-        touched_inside ins.op (length (tile_code g p)) l ins (first_operand (Some ins) l.regs values) (second_operand (Some ins) l.regs values)
+touched_there g wires p (Some (Tile l)) =
+    let ins = next_instruction (tile_code g p) l in
+    let values = fronts (takes g p (Tile l)) wires in
+    next_inside ins (length (tile_code g p)) l (first_operand ins l.regs values) (second_operand ins l.regs values)
 touched_there g wires p _ = tt
 
 joined : (a b c d e : List Entry) → ((((([] ++ a) ++ b) ++ c) ++ d) ++ e) ≡ a ++ (b ++ (c ++ (d ++ e)))
