@@ -15,17 +15,17 @@ use Rattle.raw_lost.specs.declared.root.RootKind.TheVariants.{Tile, Switch, Port
 use Rattle.raw_lost.specs.Lost.{are_alike, root_kind, LostAddUp}
 
 -- a root is of one kind
-one_kind : (b : Bool) (k : RootKind)
+one_root : (b : Bool) (k : RootKind)
     → one_if (b && are_alike Tile k) + one_if (b && are_alike Switch k) + one_if (b && are_alike Port k) + one_if (b && are_alike Stalled k)
     + one_if (b && are_alike Stopped k) + one_if (b && are_alike Ring k)
     ≡ one_if b
-one_kind false k = refl
-one_kind true Tile = refl
-one_kind true Switch = refl
-one_kind true Port = refl
-one_kind true Stalled = refl
-one_kind true Stopped = refl
-one_kind true Ring = refl
+one_root false k = refl
+one_root true Tile = refl
+one_root true Switch = refl
+one_root true Port = refl
+one_root true Stalled = refl
+one_root true Stopped = refl
+one_root true Ring = refl
 
 module _ (set : ProgramSet) (p : ℕ) where
   abbrev turn_at : ℕ → Turn
@@ -58,7 +58,7 @@ module _ (set : ProgramSet) (p : ℕ) where
       ≡ many (λ k. is_wait (turn_at k)) n
   of_waits zero = refl
   of_waits (suc n) =
-      let now = one_kind (is_wait (turn_at (0 + n))) (root_kind set (clock set (0 + n)) p) in
+      let now = one_root (is_wait (turn_at (0 + n))) (root_kind set (clock set (0 + n)) p) in
       omega (
         arith,
         of_waits n,
