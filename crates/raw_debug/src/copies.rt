@@ -18,8 +18,12 @@ use std::mem::swap;
 /// How many copies are kept at the most. A way of 2^16 steps of a processor is halved as often.
 const MAX_COPIES: usize = 16;
 
-/// How many steps two copies stand apart at first that are kept on the way to the end.
+/// How many steps two copies stand apart at first, at the least, that are kept on the way to the end.
 const FIRST_PART: u64 = 1 << 14;
+
+/// How many steps for each tile of the grid: a copy has the memories of all tiles, and takes then about a twentieth of the
+/// time of the steps that it stands behind the one before.
+const PART_OF_TILE: u64 = 1 << 12;
 
 /// How many parts such a way has at most. The distance is doubled after each eight of them at the latest.
 const MAX_PARTS: usize = 256;
@@ -71,7 +75,7 @@ impl<'s> Copies<'s> {
     }
 }
 
-impl Copies<'_> {
+impl<'s> Copies<'s> {
     // How many steps of a processor the last copy that is kept has taken.
     fn last_count(&self, p: ProcId) -> Option<u64>
         ensures { IfSome result (λ _. 0 < self.now.kept) }
@@ -200,8 +204,26 @@ impl Copies<'_> {
         }
     }
 
-    // Takes the machine to the last copy that stands before a moment, where it is past the moment, or before that copy.
-    fn take_back(&mut self, walk: &mut Walk<'_>, moment: u64)
+    // Takes the machine that is kept last, which is kept no more, and leaves this one in its place.
+    fn take_last(&mut self, walk: &mut Walk<'s>)
+        requires under_way { IsUnderWay walk.old }
+        requires copies { AreOn walk.old.machine.set self.old.walks.items }
+        ensures set { walk.new.machine.set ≡ walk.old.machine.set }
+        ensures under_way { IsUnderWay walk.new }
+        ensures copies { AreOn walk.new.machine.set self.new.walks.items }
+    {
+        let Some(last) = self.kept.checked_sub(1) else {
+            return;
+        };
+        if last < self.walks.len() {
+            swap(walk, &mut self.walks[last]);
+            self.kept = last;
+        }
+    }
+
+    // Takes the machine to the last copy that stands before a moment, where it is past the moment, or before that copy. One
+    // that stands at the moment itself is taken in its place, and none is copied.
+    fn take_back(&mut self, walk: &mut Walk<'s>, moment: u64)
         requires under_way { IsUnderWay walk.old }
         requires copies { AreOn walk.old.machine.set self.old.walks.items }
         ensures set { walk.new.machine.set ≡ walk.old.machine.set }
@@ -215,6 +237,10 @@ impl Copies<'_> {
         if at <= walk.moment && walk.moment <= moment {
             return;
         }
+        if at == moment {
+            self.take_last(walk);
+            return;
+        }
         if let Some(copy) = self.walks.get(self.kept - 1) {
             walk.copy_from(copy);
         }
@@ -222,7 +248,7 @@ impl Copies<'_> {
 
     /// Takes the machine to a moment: on from where it is, or from the last copy before the moment, or from the start where
     /// there is none.
-    pub(crate) fn return_to(&mut self, walk: &mut Walk<'_>, moment: u64)
+    pub(crate) fn return_to(&mut self, walk: &mut Walk<'s>, moment: u64)
         requires under_way { IsUnderWay walk.old }
         requires copies { AreOn walk.old.machine.set self.old.walks.items }
         requires there { moment ≤ length (serial walk.old.machine.set) }
@@ -288,7 +314,8 @@ impl Copies<'_> {
         ensures moment { walk.new.moment ≡ length (serial walk.old.machine.set) }
     {
         self.give_up_past(walk.moment);
-        let mut steps = FIRST_PART;
+        let tiles = u64::from(walk.machine.set().topo.tiles());
+        let mut steps = FIRST_PART.max(tiles.saturating_mul(PART_OF_TILE));
         for _part in 0..MAX_PARTS {
             if !walk.go_on(steps) {
                 return;

@@ -12,6 +12,10 @@ pub returns-in_default-clause-copies : goal.returns-in_default-clause-copies
 returns-in_default-clause-copies c =
     subst (λ walks. AreOn c.args.walk.now.machine.set walks.items) (sym c.give_up_past.ensures) c.requires.copies
 
+pub take_last-requires-clause-copies : goal.take_last-requires-clause-copies
+take_last-requires-clause-copies c =
+    subst (λ walks. AreOn c.args.walk.now.machine.set walks.items) (sym c.give_up_past.ensures) c.requires.copies
+
 pub returns-in-Some-get-clause-copies : goal.returns-in-Some-get-clause-copies
 returns-in-Some-get-clause-copies c =
     let set = c.args.walk.now.machine.set in
