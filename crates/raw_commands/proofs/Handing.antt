@@ -65,9 +65,6 @@ module _ (words : Option Command) (source : SourceSeen) (start new : Sight) (emp
   abbrev Behind : SinkSeen
   Behind = record { old = start; new = new }
 
-  -- ---- all was handed on
-  module _ (mid : Sight) (keeps : Keeps mid.bytes (with_gathered new.bytes [])) (later : mid.faults ≤ new.faults) where
-
   -- ---- that failed
   module _ (mid : Sight) (gs : List ℕ) (keeps : Keeps mid.bytes (with_gathered new.bytes gs)) (some : 0 < length gs) (rose : Rose mid.faults new.faults) where
     pub rest_failed : (answer : Answer) → has_put answer ≡ true → Answered words source (record { old = gathering start []; new = mid }) answer

@@ -21,7 +21,7 @@ returns-clause-ended g c = λ tells.
     let source : SourceSeen = source_seen g.S.Source.sight c.args.source.now c.dispatch-answer.new.source in
     let command : Option Command = command_of (map string_bytes c.args.words.now) in
     let first : Answered command source (record { old = told sight c.args.out.now; new = mid }) c.dispatch-answer.result =
-    subst (λ w. Answered w source (record { old = told sight c.args.out.now; new = mid }) c.dispatch-answer.result) c.command_in.ensures.command c.dispatch-answer.ensures in
+    subst (λ w. Answered w source (record { old = told sight c.args.out.now; new = mid }) c.dispatch-answer.result) c.command_in.ensures c.dispatch-answer.ensures in
     let is : Answered command source (record { old = gathering start []; new = mid }) c.dispatch-answer.result =
     subst (λ gs. Answered command source (record { old = gathering start gs; new = mid }) c.dispatch-answer.result) c.requires.out.none first in
     let hands = c.hand_on-answer.ensures command source start c.requires.out.empty is in
@@ -40,7 +40,7 @@ returns-clause-fault g c = λ eight.
     let source : SourceSeen = source_seen g.S.Source.sight c.args.source.now c.dispatch-answer.new.source in
     let command : Option Command = command_of (map string_bytes c.args.words.now) in
     let first : Answered command source (record { old = told sight c.args.out.now; new = mid }) c.dispatch-answer.result =
-    subst (λ w. Answered w source (record { old = told sight c.args.out.now; new = mid }) c.dispatch-answer.result) c.command_in.ensures.command c.dispatch-answer.ensures in
+    subst (λ w. Answered w source (record { old = told sight c.args.out.now; new = mid }) c.dispatch-answer.result) c.command_in.ensures c.dispatch-answer.ensures in
     let is : Answered command source (record { old = gathering start []; new = mid }) c.dispatch-answer.result =
     subst (λ gs. Answered command source (record { old = gathering start gs; new = mid }) c.dispatch-answer.result) c.requires.out.none first in
     let hands = c.hand_on-answer.ensures command source start c.requires.out.empty is in
