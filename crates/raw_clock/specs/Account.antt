@@ -1,5 +1,5 @@
 -- What is counted of the cycles of a set, where the turns that processors have are counted once they have others.
-use Rattle.std.specs.Prelude.{◌≡◌, ℕ, ◌<◌, ◌≤◌, length, slice_get, slice_index, Some}
+use Rattle.std.specs.Prelude.{◌≡◌, ℕ, ◌^◌, ◌<◌, ◌≤◌, length, slice_get, slice_index, Some}
 use Rattle.raw_grid.specs.Topology.{proc_count}
 use Rattle.raw_model.specs.Program.{ProgramSet}
 use Rattle.raw_serial.specs.declared.turn.Turn.{Turn}
@@ -15,3 +15,8 @@ pub record IsAccount (set : ProgramSet) (n : ℕ) (a : Account) : Type 0 where
   pub steady : (p k : ℕ) (turn : Turn) → slice_get a.turns.items p ≡ Some turn → slice_index a.since.items p ≤ k → k < n →
       turn_in set (clock set k) p ≡ turn
   pub counted : IsTallyBy set (λ p. slice_index a.since.items p) a.tally
+
+-- an account of so few cycles that a further one may be noted
+pub record AccountStands (set : ProgramSet) (n : ℕ) (a : Account) : Type 0 where
+  pub few : n < 2 ^ 62
+  pub account : IsAccount set n a

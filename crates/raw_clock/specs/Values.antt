@@ -22,3 +22,8 @@ pub record AreCounted (sent : List Sent) (before after : List ℕ) : Type 0 wher
 -- no count is more than so many higher
 abbrev pub AreFewMore : ℕ → List ℕ → List ℕ → Type 0
 AreFewMore few before after = (w : ℕ) → slice_index after w ≤ slice_index before w + few
+
+-- a number for each wire of the set, each of them below a limit
+pub record NumbersStand (set : ProgramSet) (limit : ℕ) (passed : List ℕ) : Type 0 where
+  pub each : length passed ≡ length (wires_of set.topo)
+  pub room : (w : ℕ) → slice_index passed w < limit

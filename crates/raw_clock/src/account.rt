@@ -3,7 +3,7 @@ ghost use Rattle.std.specs.Prelude.{◌≡◌, ◌<◌, ◌^◌, IfOk, Some, len
 ghost use Rattle.raw_grid.specs.Topology.{proc_count};
 ghost use Rattle.raw_model.specs.Program.{IsSet};
 ghost use Rattle.raw_serial.specs.declared.turn.Turn.TheVariants.{Fired};
-ghost use Rattle.raw_clock.specs.Account.{IsAccount};
+ghost use Rattle.raw_clock.specs.Account.{IsAccount, AccountStands};
 ghost use Rattle.raw_clock.specs.Engine.{AreOthersAlike};
 ghost use Rattle.raw_clock.specs.Tally.{IsTally};
 
@@ -51,8 +51,7 @@ impl Account {
     pub(crate) fn note(&mut self, set: &Set, p: ProcId, turn: Turn, cycles: u64)
         requires valid { IsSet set.now }
         requires there { p.0 < proc_count set.now.topo }
-        requires few { cycles < 2 ^ 62 }
-        requires account { IsAccount set.now cycles self.old }
+        requires stands { AccountStands set.now cycles self.old }
         ensures account { IsAccount set.now cycles self.new }
         ensures turn { slice_get self.new.turns.items p.0 ≡ Some turn }
         ensures others { AreOthersAlike p.0 self.old.turns.items self.new.turns.items }
@@ -67,8 +66,7 @@ impl Account {
     /// Counts all of so many cycles.
     pub(crate) fn close(&mut self, set: &Set, cycles: u64)
         requires valid { IsSet set.now }
-        requires few { cycles < 2 ^ 62 }
-        requires account { IsAccount set.now cycles self.old }
+        requires stands { AccountStands set.now cycles self.old }
         ensures { IsTally set.now cycles self.new.tally }
     {
         'procs: for p in 0..set.topo.procs() {
@@ -80,8 +78,7 @@ impl Account {
     fn count(&mut self, set: &Set, p: ProcId, cycles: u64)
         requires valid { IsSet set.now }
         requires there { p.0 < proc_count set.now.topo }
-        requires few { cycles < 2 ^ 62 }
-        requires account { IsAccount set.now cycles self.old }
+        requires stands { AccountStands set.now cycles self.old }
         ensures account { IsAccount set.now cycles self.new }
         ensures turns { self.new.turns.items ≡ self.old.turns.items }
         ensures since { self.new.since.items ≡ slice_set self.old.since.items p.0 cycles }

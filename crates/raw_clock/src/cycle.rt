@@ -12,8 +12,8 @@ ghost use Rattle.raw_serial.specs.Turns.{turn_by};
 ghost use Rattle.raw_serial.specs.Running.{turn_of, IsTurnOf};
 ghost use Rattle.raw_clock.specs.Clock.{goes};
 ghost use Rattle.raw_clock.specs.Engine.{OnlyTilesOwe, AreTurns, AreSent, Took, IsCycle, SomeGoes, NoneGoes, StaysStopped, AreOthersAlike};
-ghost use Rattle.raw_clock.specs.Values.{AreFewMore};
-ghost use Rattle.raw_clock.specs.Account.{IsAccount};
+ghost use Rattle.raw_clock.specs.Values.{NumbersStand, AreFewMore};
+ghost use Rattle.raw_clock.specs.Account.{IsAccount, AccountStands};
 
 use crate::account::Account;
 use crate::values::count_sent;
@@ -106,8 +106,7 @@ fn either(first: bool, second: bool) -> bool
 // Gives a processor its turn, and counts the values that it sends on each wire. What `event` has before it is of no account.
 fn give(machine: &mut Machine<'_>, p: ProcId, event: &mut Event, passed: &mut [u64]) -> Turn
     requires there { p.0 < proc_count machine.old.set.topo }
-    requires each { length passed.old ≡ length (wires_of machine.old.set.topo) }
-    requires room { (w : ℕ) → slice_index passed.old w < 2 ^ 62 }
+    requires passed { NumbersStand machine.old.set (2 ^ 62) passed.old }
     ensures turn { IsTurnOf machine.old machine.new p.0 result }
     ensures sent { AreSent result machine.old p.0 passed.old passed.new }
     ensures few { AreFewMore 10 passed.old passed.new }
@@ -124,8 +123,7 @@ fn give(machine: &mut Machine<'_>, p: ProcId, event: &mut Event, passed: &mut [u
 // Asks a switch or a port what its turn comes to, and notes it.
 fn ask_other(machine: &Machine<'_>, account: &mut Account, p: ProcId, cycles: u64)
     requires there { p.0 < proc_count machine.now.set.topo }
-    requires few { cycles < 2 ^ 62 }
-    requires account { IsAccount machine.now.set cycles account.old }
+    requires account { AccountStands machine.now.set cycles account.old }
     requires stopped { StaysStopped machine.now account.old.turns.items p.0 }
     ensures account { IsAccount machine.now.set cycles account.new }
     ensures turn { slice_get account.new.turns.items p.0 ≡ Some (turn_of machine.now p.0) }
@@ -155,10 +153,8 @@ fn take_tile(
     cycles: u64,
 ) -> bool
     requires tile { p.0 < tile_count machine.old.set.topo }
-    requires each { length passed.old ≡ length (wires_of machine.old.set.topo) }
-    requires room { (w : ℕ) → slice_index passed.old w < 2 ^ 62 }
-    requires few { cycles < 2 ^ 62 }
-    requires account { IsAccount machine.old.set cycles account.old }
+    requires passed { NumbersStand machine.old.set (2 ^ 62) passed.old }
+    requires account { AccountStands machine.old.set cycles account.old }
     requires stopped { StaysStopped machine.old account.old.turns.items p.0 }
     ensures goes { result ≡ goes (turn_of machine.old p.0) }
     ensures took { Took result machine.old machine.new p.0 passed.old passed.new }
@@ -188,8 +184,7 @@ fn take_other(
     p: ProcId,
 ) -> bool
     requires there { p.0 < proc_count machine.old.set.topo }
-    requires each { length passed.old ≡ length (wires_of machine.old.set.topo) }
-    requires room { (w : ℕ) → slice_index passed.old w < 2 ^ 62 }
+    requires passed { NumbersStand machine.old.set (2 ^ 62) passed.old }
     ensures goes { result ≡ goes turn }
     ensures took { Took result machine.old machine.new p.0 passed.old passed.new }
     ensures few { AreFewMore 10 passed.old passed.new }
@@ -203,8 +198,7 @@ fn take_other(
 
 // Asks the switches and the ports what their turns come to, and notes them.
 fn ask_others(machine: &Machine<'_>, account: &mut Account, cycles: u64)
-    requires few { cycles < 2 ^ 62 }
-    requires account { IsAccount machine.now.set cycles account.old }
+    requires account { AccountStands machine.now.set cycles account.old }
     requires stopped { (p : ℕ) → p < proc_count machine.now.set.topo → StaysStopped machine.now account.old.turns.items p }
     ensures account { IsAccount machine.now.set cycles account.new }
     ensures turns { (p : ℕ) → tile_count machine.now.set.topo ≤ p → p < proc_count machine.now.set.topo →
@@ -226,14 +220,12 @@ fn take_all(
     passed: &mut [u64],
     cycles: u64,
 ) -> bool
-    requires few { cycles < 2 ^ 62 }
-    requires account { IsAccount machine.old.set cycles account.old }
+    requires account { AccountStands machine.old.set cycles account.old }
     requires tiles { OnlyTilesOwe machine.old }
     requires stopped { (p : ℕ) → p < tile_count machine.old.set.topo → StaysStopped machine.old account.old.turns.items p }
     requires turns { (p : ℕ) → tile_count machine.old.set.topo ≤ p → p < proc_count machine.old.set.topo →
         slice_get account.old.turns.items p ≡ Some (turn_of machine.old p) }
-    requires each { length passed.old ≡ length (wires_of machine.old.set.topo) }
-    requires room { (w : ℕ) → slice_index passed.old w < 2 ^ 61 }
+    requires passed { NumbersStand machine.old.set (2 ^ 61) passed.old }
     ensures set { machine.new.set ≡ machine.old.set }
     ensures cycle { IsCycle machine.old machine.new passed.old passed.new }
     ensures account { IsAccount machine.old.set cycles account.new }

@@ -25,3 +25,6 @@ procs-preserved c =
       λ q later. did.others q (λ e. absurd (omega (arith, e, later))) ∙ before.5 q (omega (arith, later)),
       more_tiles m (tile_count m.set.topo) p (λ q. slice_index m.owed q) before.6 did.tiles,
     )
+
+pub ask_other-requires-clause-account : goal.ask_other-requires-clause-account
+ask_other-requires-clause-account c = record { few = c.requires.account.few; account = c.procs.invariant.2 }

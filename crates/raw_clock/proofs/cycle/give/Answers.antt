@@ -16,7 +16,7 @@ sent c = ap (λ (t : Told). t.sent) (c.try_step_telling.ensures.told c.in-Fired.
 pub count_sent-requires-clause-there : goal.count_sent-requires-clause-there
 count_sent-requires-clause-there c =
     let m = c.args.machine.now in
-    subst (λ n. All (λ (v : Sent). v.wire < n) c.deref.result.now) (sym c.requires.each)
+    subst (λ n. All (λ (v : Sent). v.wire < n) c.deref.result.now) (sym c.requires.passed.each)
     (subst (All (λ (v : Sent). v.wire < length (wires_of m.set.topo))) (sym (c.deref.ensures.0 ∙ sent (goal.at.count_sent-requires-clause-there c).In-Fired))
     (event_there m.set m.state c.args.p.0))
 

@@ -90,15 +90,14 @@ cycles-preserved c =
           (same_Some (turn_of m p) Stopped (sym (did.turns p (subst (λ (h : ProgramSet). p < proc_count h.topo) (sym c.cycles.invariant.0) below)) ∙ is)),
     )
 
-pub close-requires-clause-account : goal.close-requires-clause-account
-close-requires-clause-account c =
-    subst (λ h. IsAccount h c.cycles.cycles c.step_cycle.new.account) (c.cycles.invariant.0 ∙ sym c.set-set.ensures.value) c.step_cycle.ensures.account
-
-pub close-requires-clause-few : goal.close-requires-clause-few
-close-requires-clause-few c =
+pub close-requires-clause-stands : goal.close-requires-clause-stands
+close-requires-clause-stands c =
     let g = c.args.machine.now.set in
     let procs : proc_count g.topo ≤ 256 = omega (arith, c.procs-procs.ensures.few, c.procs-procs.ensures.value) in
-    omega (arith, few_cycles g c.set-set.ensures.valid procs c.cycles.cycles c.cycles.invariant.2)
+    record {
+      few = omega (arith, few_cycles g c.set-set.ensures.valid procs c.cycles.cycles c.cycles.invariant.2);
+      account = subst (λ h. IsAccount h c.cycles.cycles c.step_cycle.new.account) (c.cycles.invariant.0 ∙ sym c.set-set.ensures.value) c.step_cycle.ensures.account;
+    }
 
 pub returns-clause-few : goal.returns-clause-few
 returns-clause-few c =

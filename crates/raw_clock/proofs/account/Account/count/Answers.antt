@@ -12,7 +12,7 @@ note-requires-clause-wire c =
     let g = c.args.set.now in
     let p = c.args.p.0 in
     let a = c.args.self.now in
-    let is = c.requires.account in
+    let is = c.requires.stands.account in
     let turn = c.index.result.now in
     let since = since_is g c.requires.valid c.args.cycles a is p c.requires.there c.index-since.result.now c.index-since.ensures in
     let here = turn_is g c.requires.valid c.args.cycles a is p c.requires.there turn c.index.ensures in
@@ -22,18 +22,18 @@ note-requires-clause-wire c =
 
 pub note-requires-clause-room : goal.note-requires-clause-room
 note-requires-clause-room c =
-    let is = c.requires.account in
-    room_at c.args.set.now c.requires.valid (λ q. slice_index c.args.self.now.since.items q) c.args.cycles c.requires.few is.before c.args.self.now.tally is.counted c.args.p.0
+    let is = c.requires.stands.account in
+    room_at c.args.set.now c.requires.valid (λ q. slice_index c.args.self.now.since.items q) c.args.cycles c.requires.stands.few is.before c.args.self.now.tally is.counted c.args.p.0
 
 pub note-requires-clause-inputs : goal.note-requires-clause-inputs
 note-requires-clause-inputs c =
-    let is = c.requires.account in
-    room_for_inputs c.args.set.now c.requires.valid (λ q. slice_index c.args.self.now.since.items q) c.args.cycles c.requires.few is.before c.args.self.now.tally is.counted
+    let is = c.requires.stands.account in
+    room_for_inputs c.args.set.now c.requires.valid (λ q. slice_index c.args.self.now.since.items q) c.args.cycles c.requires.stands.few is.before c.args.self.now.tally is.counted
 
 pub note-requires-clause-outputs : goal.note-requires-clause-outputs
 note-requires-clause-outputs c =
-    let is = c.requires.account in
-    room_for_outputs c.args.set.now c.requires.valid (λ q. slice_index c.args.self.now.since.items q) c.args.cycles c.requires.few is.before c.args.self.now.tally is.counted
+    let is = c.requires.stands.account in
+    room_for_outputs c.args.set.now c.requires.valid (λ q. slice_index c.args.self.now.since.items q) c.args.cycles c.requires.stands.few is.before c.args.self.now.tally is.counted
 
 pub returns-clause-account : goal.returns-clause-account
 returns-clause-account c =
@@ -41,7 +41,7 @@ returns-clause-account c =
     let p = c.args.p.0 in
     let a = c.args.self.now in
     let n = c.args.cycles in
-    let is = c.requires.account in
+    let is = c.requires.stands.account in
     let valid = c.requires.valid in
     let since = since_is g valid n a is p c.requires.there c.index-since.result.now c.index-since.ensures in
     let parts : (c.if-since-cycles.self.turns.items ≡ a.turns.items) × (put_at c.if-since-cycles.self.since.items p n ≡ put_at a.since.items p n)
