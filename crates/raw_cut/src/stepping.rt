@@ -4,7 +4,7 @@ ghost use Rattle.raw_grid.specs.declared.parts.ProcKind.TheVariants as proc;
 ghost use Rattle.raw_grid.specs.Topology.{proc_count, kind_at};
 ghost use Rattle.raw_model.specs.Program.{IsSet};
 ghost use Rattle.raw_model.specs.Local.{Tile, Switch, Source, Sink};
-ghost use Rattle.raw_prove.specs.Standing.{EndsStand};
+ghost use Rattle.raw_serial.specs.Standing.{EndsStand};
 ghost use Rattle.raw_flow.specs.declared.node.Node.{Node};
 ghost use Rattle.raw_prove.specs.Units.{local_of, state_of, IsTile, IsSwitch};
 ghost use Rattle.raw_prove.specs.Turns.{IsTurn};

@@ -9,7 +9,7 @@ ghost use Rattle.raw_model.specs.TileTable.{next_instruction, following, moved};
 ghost use Rattle.raw_model.specs.SwitchTable.{next_instruction as next_switch_instruction};
 ghost use Rattle.raw_term.specs.Terms.{word_in};
 ghost use Rattle.raw_prove.specs.Units.{local_of, state_of, IsTile, IsSwitch};
-ghost use Rattle.raw_prove.specs.Standing.{EndsStand};
+ghost use Rattle.raw_serial.specs.Standing.{EndsStand};
 ghost use Rattle.raw_model.specs.Rest.{enabled};
 ghost use Rattle.raw_rows.specs.Noted.{noted_pc, noted_at, noting_step, along_noting};
 ghost use Rattle.raw_cut.specs.Kept.{IsUnitWith, IsKeptWith, IsKept};

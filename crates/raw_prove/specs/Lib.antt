@@ -3,4 +3,3 @@ pub mod Turns
 pub mod Runs
 pub mod Opened
 pub mod RowRuns
-pub mod Standing

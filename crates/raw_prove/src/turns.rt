@@ -8,7 +8,7 @@ ghost use Rattle.raw_model.specs.SwitchTable.{next_instruction as next_switch_in
 ghost use Rattle.raw_model.specs.Local.{Tile, Switch, Source, Sink};
 ghost use Rattle.raw_model.specs.Machine.{is_ended, is_stopped, tile_code, switch_code, first_operand, second_operand};
 ghost use Rattle.raw_tile.specs.Given.{IsGivenFor, values_of};
-ghost use Rattle.raw_prove.specs.Standing.{EndsStand};
+ghost use Rattle.raw_serial.specs.Standing.{EndsStand};
 ghost use Rattle.raw_flow.specs.declared.node.Node.{Node};
 ghost use Rattle.raw_term.specs.Terms.{Overflows};
 ghost use Rattle.raw_term.specs.TermRows.{term_effect, term_switch};

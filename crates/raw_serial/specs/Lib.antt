@@ -10,3 +10,4 @@ pub mod Within
 pub mod Taken
 pub mod Kinds
 pub mod Copied
+pub mod Standing

@@ -10,6 +10,7 @@ ghost use Rattle.raw_model.specs.Start.{IsFit};
 ghost use Rattle.raw_processor.specs.Ends.{AreEndsOf};
 ghost use Rattle.raw_processor.specs.Processor.{local_of, IsKept};
 ghost use Rattle.raw_serial.specs.Turns.{turn_by, turn_at};
+ghost use Rattle.raw_serial.specs.Standing.{EndsStand};
 
 use crate::needs::{unmet_at, unmet_by_tile};
 use crate::turn::Turn;
@@ -29,11 +30,9 @@ pub(crate) fn ask_processor(
     processor: &Processor,
     wires: &Wires,
 ) -> Turn
-    requires valid { IsSet set.now }
-    requires ends { AreEndsOf set.now.topo p.0 ends.now }
+    requires ends { EndsStand set.now p.0 ends.now wires.now }
     requires kept { IsKept set.now p.0 processor.now }
     requires fits { IsFit set.now p.0 (local_of processor.now) }
-    requires wires { length wires.now ≡ length (wires_of set.now.topo) }
     ensures { result ≡ turn_at set.now p.0 false (local_of processor.now) wires.now }
 {
     match processor {
@@ -46,10 +45,8 @@ pub(crate) fn ask_processor(
 
 /// What a turn of a tile would come to.
 fn ask_tile(set: &Set, p: ProcId, ends: &EndWires, tile: &TileUnit, wires: &Wires) -> Turn
-    requires valid { IsSet set.now }
+    requires ends { EndsStand set.now p.0 ends.now wires.now }
     requires code { tile.now.code.items ≡ tile_code set.now p.0 }
-    requires ends { AreEndsOf set.now.topo p.0 ends.now }
-    requires wires { length wires.now ≡ length (wires_of set.now.topo) }
     ensures { result ≡ turn_at set.now p.0 false (Tile tile.now.state) wires.now }
 {
     if tile_stopped(&tile.state, set.limit) {
@@ -61,10 +58,8 @@ fn ask_tile(set: &Set, p: ProcId, ends: &EndWires, tile: &TileUnit, wires: &Wire
 
 /// What a turn of a switch would come to.
 fn ask_switch(set: &Set, p: ProcId, ends: &EndWires, switch: &SwitchUnit, wires: &Wires) -> Turn
-    requires valid { IsSet set.now }
+    requires ends { EndsStand set.now p.0 ends.now wires.now }
     requires code { switch.now.code.items ≡ switch_code set.now p.0 }
-    requires ends { AreEndsOf set.now.topo p.0 ends.now }
-    requires wires { length wires.now ≡ length (wires_of set.now.topo) }
     ensures { result ≡ turn_at set.now p.0 false (Switch switch.now.state) wires.now }
 {
     if switch_stopped(&switch.state, set.limit) {
@@ -83,10 +78,8 @@ pub(crate) fn ask_source(
     state: &PortState,
     wires: &Wires,
 ) -> Turn
-    requires valid { IsSet set.now }
+    requires ends { EndsStand set.now p.0 ends.now wires.now }
     requires source { kind_at set.now.topo p.0 ≡ Some proc.Source }
-    requires ends { AreEndsOf set.now.topo p.0 ends.now }
-    requires wires { length wires.now ≡ length (wires_of set.now.topo) }
     ensures { result ≡ turn_at set.now p.0 false (Source state.now.local) wires.now }
 {
     let words = words_of(set, p);
@@ -105,10 +98,8 @@ pub(crate) fn ask_sink(
     state: &PortState,
     wires: &Wires,
 ) -> Turn
-    requires valid { IsSet set.now }
+    requires ends { EndsStand set.now p.0 ends.now wires.now }
     requires sink { kind_at set.now.topo p.0 ≡ Some proc.Sink }
-    requires ends { AreEndsOf set.now.topo p.0 ends.now }
-    requires wires { length wires.now ≡ length (wires_of set.now.topo) }
     ensures { result ≡ turn_at set.now p.0 false (Sink state.now.local) wires.now }
 {
     if sink_stopped(state, capacity_of(set, p)) {

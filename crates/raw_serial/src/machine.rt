@@ -3,6 +3,7 @@ ghost use Rattle.std.specs.Prelude.{◌≡◌, ◌≢◌, ◌<◌, Some, IfOk};
 ghost use Rattle.raw_grid.specs.Topology.{proc_count, kind_at};
 ghost use Rattle.raw_serial.specs.Fresh.{IsFresh};
 ghost use Rattle.raw_serial.specs.Told.{told_of};
+ghost use Rattle.raw_serial.specs.Standing.{IsOfKind};
 ghost use Rattle.raw_serial.specs.Running.{turn_of, stalled_once, IsStep, IsTurnOf};
 
 use crate::opening::{open_ends, open_processors};
@@ -82,8 +83,7 @@ impl Machine<'_> {
     // Gives a processor of this kind its turn, and tells what it does, if that is a step.
     #[inline(always)]
     fn turn_as<T: Tells>(&mut self, p: ProcId, kind: ProcKind, teller: &mut T) -> Turn
-        requires proc { p.0 < proc_count self.old.set.topo }
-        requires kind { kind_at self.old.set.topo p.0 ≡ Some kind }
+        requires { IsOfKind self.old.set.topo p.0 kind }
         ensures turn { IsTurnOf self.old self.new p.0 result }
         ensures told { result ≡ Turn.Fired → T.has teller.new (told_of self.old self.new p.0) }
     {
@@ -96,8 +96,7 @@ impl Machine<'_> {
     // The same with what the answer says of the machine.
     #[inline(always)]
     pub(crate) fn try_step_as(&mut self, p: ProcId, kind: ProcKind) -> Turn
-        requires proc { p.0 < proc_count self.old.set.topo }
-        requires kind { kind_at self.old.set.topo p.0 ≡ Some kind }
+        requires { IsOfKind self.old.set.topo p.0 kind }
         ensures answer { result ≡ turn_of self.old p.0 }
         ensures set { self.new.set ≡ self.old.set }
         ensures fired { result ≡ Turn.Fired → IsStep self.old self.new p.0 }

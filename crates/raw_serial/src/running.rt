@@ -1,8 +1,9 @@
 //! Runs of a machine until it rests.
 ghost use Rattle.std.specs.Prelude.{◌≡◌, ◌≢◌, ◌<◌, ◌≤◌, true, false, Some, [], ◌∷◌, if◌then◌else◌};
-ghost use Rattle.raw_grid.specs.Topology.{proc_count, kind_at};
+ghost use Rattle.raw_grid.specs.Topology.{proc_count};
 ghost use Rattle.raw_model.specs.Rest.{enabled, step, IsQuiet};
 ghost use Rattle.raw_model.specs.Bounds.{all_left};
+ghost use Rattle.raw_serial.specs.Standing.{IsOfKind};
 ghost use Rattle.raw_serial.specs.Running.{turn_of, IsStep};
 ghost use Rattle.raw_serial.specs.Leading.{Leads, HasTaken, HasRun, HasRunFor, IsRunFor, past_stalls};
 
@@ -25,8 +26,7 @@ impl Machine<'_> {
     // Takes all stall turns that a processor of this kind owes, and then gives it its turn.
     #[inline(always)]
     fn step_past_stalls_as(&mut self, p: ProcId, kind: ProcKind) -> Turn
-        requires proc { p.0 < proc_count self.old.set.topo }
-        requires kind { kind_at self.old.set.topo p.0 ≡ Some kind }
+        requires { IsOfKind self.old.set.topo p.0 kind }
         ensures answer { result ≡ turn_of (past_stalls self.old p.0) p.0 }
         ensures set { self.new.set ≡ self.old.set }
         ensures fired { result ≡ Turn.Fired → IsStep (past_stalls self.old p.0) self.new p.0 }
@@ -60,8 +60,7 @@ impl Machine<'_> {
     // The same of a processor of this kind.
     #[inline(always)]
     fn step_as(&mut self, p: ProcId, kind: ProcKind) -> bool
-        requires proc { p.0 < proc_count self.old.set.topo }
-        requires kind { kind_at self.old.set.topo p.0 ≡ Some kind }
+        requires { IsOfKind self.old.set.topo p.0 kind }
         ensures set { self.new.set ≡ self.old.set }
         ensures enabled { result ≡ enabled self.old.set self.old.state p.0 }
         ensures fired { result ≡ true → IsStep (past_stalls self.old p.0) self.new p.0 }
@@ -96,8 +95,7 @@ impl Machine<'_> {
     // The same of a tile. Where it takes a stall turn, `step` passes over the further ones that it owes.
     #[inline(always)]
     fn run_tile(&mut self, p: ProcId, most: u64) -> u64
-        requires proc { p.0 < proc_count self.old.set.topo }
-        requires kind { kind_at self.old.set.topo p.0 ≡ Some ProcKind.Tile }
+        requires { IsOfKind self.old.set.topo p.0 ProcKind.Tile }
         ensures { IsRunFor self.old self.new most result }
     {
         let mut left = most;
@@ -120,8 +118,7 @@ impl Machine<'_> {
     // Gives a processor of this kind turns, as by `take_turns`.
     #[inline(always)]
     fn take_turns_as(&mut self, p: ProcId, kind: ProcKind, most: u64) -> Turns
-        requires proc { p.0 < proc_count self.old.set.topo }
-        requires kind { kind_at self.old.set.topo p.0 ≡ Some kind }
+        requires { IsOfKind self.old.set.topo p.0 kind }
         ensures { IsRunFor self.old self.new most result.left }
     {
         let i = p.0 as usize;

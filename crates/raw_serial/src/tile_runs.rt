@@ -11,6 +11,7 @@ ghost use Rattle.raw_processor.specs.declared.processor.Processor.TheVariants as
 ghost use Rattle.raw_processor.specs.Ends.{AreEndsOf};
 ghost use Rattle.raw_processor.specs.Processor.{local_of};
 ghost use Rattle.raw_serial.specs.Costs.{IsTileTurn};
+ghost use Rattle.raw_serial.specs.Standing.{TileStands};
 ghost use Rattle.raw_serial.specs.Leading.{IsOfSome};
 ghost use Rattle.raw_serial.specs.Within.{register_in, NamesNone, HasRunWithin, RunsWithin};
 
@@ -113,13 +114,7 @@ fn step_within(
     tile: &mut TileUnit,
     wires: &mut Wires,
 ) -> bool
-    requires valid { IsSet set.now }
-    requires tile { p.0 < tile_count set.now.topo }
-    requires ends { AreEndsOf set.now.topo p.0 ends.now }
-    requires code { tile.old.code.items ≡ tile_code set.now p.0 }
-    requires few { tile.old.misses ≤ tile.old.state.count }
-    requires fits { FitsTile set.now.limit (tile_code set.now p.0) tile.old.state }
-    requires wires { length wires.old ≡ length (wires_of set.now.topo) }
+    requires { TileStands set.now p.0 ends.now tile.old wires.old }
     ensures fired { result ≡ true → IsTileTurn set.now p.0 Turn.Fired tile.old tile.new wires.old wires.new }
     ensures within { result ≡ true → NamesNone set.now p.0 (Tile tile.old.state) }
     ensures stays { result ≡ false → tile.new ≡ tile.old }

@@ -14,6 +14,7 @@ ghost use Rattle.raw_processor.specs.declared.processor.Processor.TheVariants as
 ghost use Rattle.raw_processor.specs.Ends.{AreEndsOf};
 ghost use Rattle.raw_processor.specs.Processor.{local_of, IsKept, HasFewMisses};
 ghost use Rattle.raw_serial.specs.Costs.{IsTileTurn, IsSwitchTurn, IsSourceTurn, IsSinkTurn, IsProcessorTurn};
+ghost use Rattle.raw_serial.specs.Standing.{EndsStand, TileStands, TileMayStep, SwitchStands};
 ghost use Rattle.raw_serial.specs.Told.{WasTold};
 ghost use Rattle.raw_serial.specs.Leading.{IsOfSome, RunsOn};
 
@@ -43,13 +44,11 @@ pub(crate) fn turn_processor<T: Tells>(
     wires: &mut Wires,
     teller: &mut T,
 ) -> Turn
-    requires valid { IsSet set.now }
+    requires ends { EndsStand set.now p.0 ends.now wires.old }
     requires kind { kind_at set.now.topo p.0 ≡ Some kind }
-    requires ends { AreEndsOf set.now.topo p.0 ends.now }
     requires kept { IsKept set.now p.0 processor.old }
     requires few { HasFewMisses processor.old }
     requires fits { IsFit set.now p.0 (local_of processor.old) }
-    requires wires { length wires.old ≡ length (wires_of set.now.topo) }
     ensures turn { IsProcessorTurn set.now p.0 result processor.old processor.new wires.old wires.new }
     ensures told { WasTold T.has set.now p.0 result processor.old processor.new wires.old teller.new }
 {
@@ -126,13 +125,7 @@ pub(crate) fn turn_tile<T: Tells>(
     wires: &mut Wires,
     teller: &mut T,
 ) -> Turn
-    requires valid { IsSet set.now }
-    requires tile { p.0 < tile_count set.now.topo }
-    requires ends { AreEndsOf set.now.topo p.0 ends.now }
-    requires code { tile.old.code.items ≡ tile_code set.now p.0 }
-    requires few { tile.old.misses ≤ tile.old.state.count }
-    requires fits { FitsTile set.now.limit (tile_code set.now p.0) tile.old.state }
-    requires wires { length wires.old ≡ length (wires_of set.now.topo) }
+    requires { TileStands set.now p.0 ends.now tile.old wires.old }
     ensures turn { IsTileTurn set.now p.0 result tile.old tile.new wires.old wires.new }
     ensures told { WasTold T.has set.now p.0 result (a.Tile tile.old) (a.Tile tile.new) wires.old teller.new }
 {
@@ -157,15 +150,7 @@ fn step_tile<T: Tells>(
     wires: &mut Wires,
     teller: &mut T,
 ) -> Turn
-    requires valid { IsSet set.now }
-    requires tile { p.0 < tile_count set.now.topo }
-    requires ends { AreEndsOf set.now.topo p.0 ends.now }
-    requires code { tile.old.code.items ≡ tile_code set.now p.0 }
-    requires few { tile.old.misses ≤ tile.old.state.count }
-    requires fits { FitsTile set.now.limit (tile_code set.now p.0) tile.old.state }
-    requires wires { length wires.old ≡ length (wires_of set.now.topo) }
-    requires going { is_stopped set.now p.0 (Tile tile.old.state) ≡ false }
-    requires free { tile.old.owed ≡ 0 }
+    requires { TileMayStep set.now p.0 ends.now tile.old wires.old }
     ensures turn { IsTileTurn set.now p.0 result tile.old tile.new wires.old wires.new }
     ensures told { WasTold T.has set.now p.0 result (a.Tile tile.old) (a.Tile tile.new) wires.old teller.new }
 {
@@ -187,15 +172,7 @@ fn fire_tile_apart<T: Tells>(
     wires: &mut Wires,
     teller: &mut T,
 ) -> Turn
-    requires valid { IsSet set.now }
-    requires tile { p.0 < tile_count set.now.topo }
-    requires ends { AreEndsOf set.now.topo p.0 ends.now }
-    requires code { tile.old.code.items ≡ tile_code set.now p.0 }
-    requires few { tile.old.misses ≤ tile.old.state.count }
-    requires fits { FitsTile set.now.limit (tile_code set.now p.0) tile.old.state }
-    requires wires { length wires.old ≡ length (wires_of set.now.topo) }
-    requires going { is_stopped set.now p.0 (Tile tile.old.state) ≡ false }
-    requires free { tile.old.owed ≡ 0 }
+    requires { TileMayStep set.now p.0 ends.now tile.old wires.old }
     ensures turn { IsTileTurn set.now p.0 result tile.old tile.new wires.old wires.new }
     ensures told { WasTold T.has set.now p.0 result (a.Tile tile.old) (a.Tile tile.new) wires.old teller.new }
 {
@@ -212,15 +189,7 @@ pub(crate) fn fire_tile<T: Tells>(
     wires: &mut Wires,
     teller: &mut T,
 ) -> Turn
-    requires valid { IsSet set.now }
-    requires tile { p.0 < tile_count set.now.topo }
-    requires ends { AreEndsOf set.now.topo p.0 ends.now }
-    requires code { tile.old.code.items ≡ tile_code set.now p.0 }
-    requires few { tile.old.misses ≤ tile.old.state.count }
-    requires fits { FitsTile set.now.limit (tile_code set.now p.0) tile.old.state }
-    requires wires { length wires.old ≡ length (wires_of set.now.topo) }
-    requires going { is_stopped set.now p.0 (Tile tile.old.state) ≡ false }
-    requires free { tile.old.owed ≡ 0 }
+    requires { TileMayStep set.now p.0 ends.now tile.old wires.old }
     ensures turn { IsTileTurn set.now p.0 result tile.old tile.new wires.old wires.new }
     ensures told { WasTold T.has set.now p.0 result (a.Tile tile.old) (a.Tile tile.new) wires.old teller.new }
 {
@@ -261,12 +230,7 @@ pub(crate) fn turn_switch<T: Tells>(
     wires: &mut Wires,
     teller: &mut T,
 ) -> Turn
-    requires valid { IsSet set.now }
-    requires switch { kind_at set.now.topo p.0 ≡ Some proc.Switch }
-    requires code { switch.old.code.items ≡ switch_code set.now p.0 }
-    requires ends { AreEndsOf set.now.topo p.0 ends.now }
-    requires fits { FitsSwitch set.now.limit (switch_code set.now p.0) switch.old.state }
-    requires wires { length wires.old ≡ length (wires_of set.now.topo) }
+    requires { SwitchStands set.now p.0 ends.now switch.old wires.old }
     ensures turn { IsSwitchTurn set.now p.0 result switch.old switch.new wires.old wires.new }
     ensures told { WasTold T.has set.now p.0 result (a.Switch switch.old) (a.Switch switch.new) wires.old teller.new }
 {
@@ -285,12 +249,7 @@ fn step_switch<T: Tells>(
     wires: &mut Wires,
     teller: &mut T,
 ) -> Turn
-    requires valid { IsSet set.now }
-    requires switch { kind_at set.now.topo p.0 ≡ Some proc.Switch }
-    requires code { switch.old.code.items ≡ switch_code set.now p.0 }
-    requires ends { AreEndsOf set.now.topo p.0 ends.now }
-    requires fits { FitsSwitch set.now.limit (switch_code set.now p.0) switch.old.state }
-    requires wires { length wires.old ≡ length (wires_of set.now.topo) }
+    requires stands { SwitchStands set.now p.0 ends.now switch.old wires.old }
     requires going { is_stopped set.now p.0 (Switch switch.old.state) ≡ false }
     ensures turn { IsSwitchTurn set.now p.0 result switch.old switch.new wires.old wires.new }
     ensures told { WasTold T.has set.now p.0 result (a.Switch switch.old) (a.Switch switch.new) wires.old teller.new }
@@ -318,10 +277,8 @@ pub fn turn_source<T: Tells>(
     wires: &mut Wires,
     teller: &mut T,
 ) -> Turn
-    requires valid { IsSet set.now }
+    requires ends { EndsStand set.now p.0 ends.now wires.old }
     requires source { kind_at set.now.topo p.0 ≡ Some proc.Source }
-    requires ends { AreEndsOf set.now.topo p.0 ends.now }
-    requires wires { length wires.old ≡ length (wires_of set.now.topo) }
     ensures turn { IsSourceTurn set.now p.0 result state.old state.new wires.old wires.new }
     ensures told { WasTold T.has set.now p.0 result (a.Source state.old) (a.Source state.new) wires.old teller.new }
 {
@@ -355,12 +312,10 @@ pub fn turn_sink<T: Tells>(
     wires: &mut Wires,
     teller: &mut T,
 ) -> Turn
-    requires valid { IsSet set.now }
+    requires ends { EndsStand set.now p.0 ends.now wires.old }
     requires sink { kind_at set.now.topo p.0 ≡ Some proc.Sink }
-    requires ends { AreEndsOf set.now.topo p.0 ends.now }
     requires fits { length state.old.local.got ≡ state.old.local.done }
     requires room { capacity_of (port_program set.now p.0) ≤ state.old.room }
-    requires wires { length wires.old ≡ length (wires_of set.now.topo) }
     ensures turn { IsSinkTurn set.now p.0 result state.old state.new wires.old wires.new }
     ensures told { WasTold T.has set.now p.0 result (a.Sink state.old) (a.Sink state.new) wires.old teller.new }
 {

@@ -10,8 +10,8 @@ use Rattle.raw_serial.proofs.asking.ask_sink.Goals.{After-sink_needs}
 needs : (c : After-sink_needs)
     → AreNeedsOf c.args.set.now c.args.p.0 (Sink c.args.state.now.local) c.args.ends.now (wires_in c.sink_needs.result.inputs c.args.ends.now.inputs) (wires_in c.sink_needs.result.outputs c.args.ends.now.outputs)
 needs c = record {
-  ends = c.requires.ends;
-  takes = c.sink_needs.ensures.takes c.args.set.now.topo c.args.p.0 c.args.ends.now c.requires.ends;
+  ends = c.requires.ends.ends_are;
+  takes = c.sink_needs.ensures.takes c.args.set.now.topo c.args.p.0 c.args.ends.now c.requires.ends.ends_are;
   sends = c.sink_needs.ensures.sends c.args.ends.now;
 }
 

@@ -10,9 +10,9 @@ use Rattle.raw_serial.proofs.asking.ask_source.Goals.{After-source_needs}
 needs : (c : After-source_needs)
     → AreNeedsOf c.args.set.now c.args.p.0 (Source c.args.state.now.local) c.args.ends.now (wires_in c.source_needs.result.inputs c.args.ends.now.inputs) (wires_in c.source_needs.result.outputs c.args.ends.now.outputs)
 needs c = record {
-  ends = c.requires.ends;
+  ends = c.requires.ends.ends_are;
   takes = c.source_needs.ensures.takes c.args.ends.now;
-  sends = c.source_needs.ensures.sends c.args.set.now.topo c.args.p.0 c.args.ends.now c.requires.ends;
+  sends = c.source_needs.ensures.sends c.args.set.now.topo c.args.p.0 c.args.ends.now c.requires.ends.ends_are;
 }
 
 pub unmet_at-requires-clause-needs : goal.unmet_at-requires-clause-needs

@@ -12,8 +12,8 @@ use Rattle.raw_serial.proofs.asking.ask_switch.Goals.{After-switch_needs-needs}
 
 needs : (c : After-switch_needs-needs) → AreNeedsOf c.args.set.now c.args.p.0 (Switch c.args.switch.now.state) c.args.ends.now (wires_in c.switch_needs-needs.result.inputs c.args.ends.now.inputs) (wires_in c.switch_needs-needs.result.outputs c.args.ends.now.outputs)
 needs c =
-    switch_needs c.args.set.now c.args.p.0 c.args.switch.now.state c.args.ends.now c.deref.result.now _ _ c.requires.ends (c.deref.ensures.value ∙ c.requires.code)
-    (c.switch_needs-needs.ensures.takes c.args.set.now.topo c.args.p.0 c.args.ends.now c.requires.ends) (c.switch_needs-needs.ensures.sends c.args.set.now.topo c.args.p.0 c.args.ends.now c.requires.ends)
+    switch_needs c.args.set.now c.args.p.0 c.args.switch.now.state c.args.ends.now c.deref.result.now _ _ c.requires.ends.ends_are (c.deref.ensures.value ∙ c.requires.code)
+    (c.switch_needs-needs.ensures.takes c.args.set.now.topo c.args.p.0 c.args.ends.now c.requires.ends.ends_are) (c.switch_needs-needs.ensures.sends c.args.set.now.topo c.args.p.0 c.args.ends.now c.requires.ends.ends_are)
 
 pub unmet_at-requires-clause-needs : goal.unmet_at-requires-clause-needs
 unmet_at-requires-clause-needs c = record { p = c.args.p.0; l = Switch c.args.switch.now.state; needs = needs c }

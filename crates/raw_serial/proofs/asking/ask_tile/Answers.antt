@@ -12,8 +12,8 @@ use Rattle.raw_serial.proofs.asking.ask_tile.Goals.{After-tile_wires-needs}
 
 needs : (c : After-tile_wires-needs) → AreNeedsOf c.args.set.now c.args.p.0 (Tile c.args.tile.now.state) c.args.ends.now (taken_by c.tile_wires-needs.result) (sent_by c.tile_wires-needs.result)
 needs c =
-    tile_needs c.args.set.now c.args.p.0 c.args.tile.now.state c.args.ends.now c.deref.result.now _ _ c.requires.ends (c.deref.ensures.value ∙ c.requires.code)
-    (c.tile_wires-needs.ensures.takes c.args.set.now.topo c.args.p.0 c.requires.ends) (c.tile_wires-needs.ensures.sends c.args.set.now.topo c.args.p.0 c.requires.ends)
+    tile_needs c.args.set.now c.args.p.0 c.args.tile.now.state c.args.ends.now c.deref.result.now _ _ c.requires.ends.ends_are (c.deref.ensures.value ∙ c.requires.code)
+    (c.tile_wires-needs.ensures.takes c.args.set.now.topo c.args.p.0 c.requires.ends.ends_are) (c.tile_wires-needs.ensures.sends c.args.set.now.topo c.args.p.0 c.requires.ends.ends_are)
 
 pub unmet_by_tile-requires-clause-needs : goal.unmet_by_tile-requires-clause-needs
 unmet_by_tile-requires-clause-needs c = record { p = c.args.p.0; l = Tile c.args.tile.now.state; needs = needs c }

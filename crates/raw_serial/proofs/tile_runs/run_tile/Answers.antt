@@ -11,25 +11,16 @@ steps-init c = record {
   few = omega arith;
 }
 
-pub step_within-requires-clause-code : goal.step_within-requires-clause-code
-step_within-requires-clause-code c =
+pub step_within-requires : goal.step_within-requires
+step_within-requires c =
     let now = within_of c.args.set.now c.args.p.0 c.args.register (a.Tile c.args.tile.now) (a.Tile c.steps.tile) c.args.wires.now c.steps.wires c.steps.steps c.requires.of c.steps.invariant.run in
-    now.parts.kept c.args.p.0 (a.Tile c.steps.tile) now.here
-
-pub step_within-requires-clause-few : goal.step_within-requires-clause-few
-step_within-requires-clause-few c =
-    let now = within_of c.args.set.now c.args.p.0 c.args.register (a.Tile c.args.tile.now) (a.Tile c.steps.tile) c.args.wires.now c.steps.wires c.steps.steps c.requires.of c.steps.invariant.run in
-    now.parts.few c.args.p.0 (a.Tile c.steps.tile) now.here
-
-pub step_within-requires-clause-fits : goal.step_within-requires-clause-fits
-step_within-requires-clause-fits c =
-    let now = within_of c.args.set.now c.args.p.0 c.args.register (a.Tile c.args.tile.now) (a.Tile c.steps.tile) c.args.wires.now c.steps.wires c.steps.steps c.requires.of c.steps.invariant.run in
-    (fit_here c.args.set.now now.ends now.processors c.steps.wires now.parts c.args.p.0 (a.Tile c.steps.tile) now.here).1
-
-pub step_within-requires-clause-wires : goal.step_within-requires-clause-wires
-step_within-requires-clause-wires c =
-    let now = within_of c.args.set.now c.args.p.0 c.args.register (a.Tile c.args.tile.now) (a.Tile c.steps.tile) c.args.wires.now c.steps.wires c.steps.steps c.requires.of c.steps.invariant.run in
-    now.parts.fits.wires
+    record {
+      on = record { valid = now.parts.valid; ends_are = c.requires.ends; each = now.parts.fits.wires };
+      there = c.requires.there;
+      code = now.parts.kept c.args.p.0 (a.Tile c.steps.tile) now.here;
+      few = now.parts.few c.args.p.0 (a.Tile c.steps.tile) now.here;
+      fits = (fit_here c.args.set.now now.ends now.processors c.steps.wires now.parts c.args.p.0 (a.Tile c.steps.tile) now.here).1;
+    }
 
 pub returns-then-held_by-held-clause-run : goal.returns-then-held_by-held-clause-run
 returns-then-held_by-held-clause-run c =

@@ -13,6 +13,6 @@ returns-in-Fired-clause-within c = λ e.
     let next = ap (λ code. next_instruction code c.args.tile.now.state) (sym own) ∙ c.tile_step-step.ensures in
     let none : is_within c.tile_step-step.result.now ≡ true = sym c.is_within.ensures ∙ c.if-not-is_within.false in
     record {
-      takes = ap (tile_takes set.topo p) next ∙ takes_none set.topo p c.args.ends.now c.requires.ends c.tile_step-step.result.now none;
-      sends = ap (tile_sends set.topo p) next ∙ sends_none set.topo p c.args.ends.now c.requires.ends c.tile_step-step.result.now none;
+      takes = ap (tile_takes set.topo p) next ∙ takes_none set.topo p c.args.ends.now c.requires.on.ends_are c.tile_step-step.result.now none;
+      sends = ap (tile_sends set.topo p) next ∙ sends_none set.topo p c.args.ends.now c.requires.on.ends_are c.tile_step-step.result.now none;
     }

@@ -22,14 +22,14 @@ use Rattle.raw_serial.proofs.turns.fire_tile.Goals.{After-step_wires-needs, Afte
 needs : (g : Over) (c : After-step_wires-needs g)
     → AreNeedsOf c.args.set.now c.args.p.0 (Tile c.args.tile.now.state) c.args.ends.now (taken_by c.step_wires-needs.result) (sent_by c.step_wires-needs.result)
 needs g c =
-    tile_needs c.args.set.now c.args.p.0 c.args.tile.now.state c.args.ends.now c.deref-code.result.now _ _ c.requires.ends (c.deref-code.ensures.value ∙ c.requires.code)
-    (c.step_wires-needs.ensures.takes c.args.set.now.topo c.args.p.0 c.requires.ends ∙ ap (tile_takes c.args.set.now.topo c.args.p.0) (sym c.tile_step-step.ensures))
-    (c.step_wires-needs.ensures.sends c.args.set.now.topo c.args.p.0 c.requires.ends ∙ ap (tile_sends c.args.set.now.topo c.args.p.0) (sym c.tile_step-step.ensures))
+    tile_needs c.args.set.now c.args.p.0 c.args.tile.now.state c.args.ends.now c.deref-code.result.now _ _ c.requires.stands.on.ends_are (c.deref-code.ensures.value ∙ c.requires.stands.code)
+    (c.step_wires-needs.ensures.takes c.args.set.now.topo c.args.p.0 c.requires.stands.on.ends_are ∙ ap (tile_takes c.args.set.now.topo c.args.p.0) (sym c.tile_step-step.ensures))
+    (c.step_wires-needs.ensures.sends c.args.set.now.topo c.args.p.0 c.requires.stands.on.ends_are ∙ ap (tile_sends c.args.set.now.topo c.args.p.0) (sym c.tile_step-step.ensures))
 
 sent : (g : Over) (c : After-tile_fire-out g) → sent_out c.args.ends.now c.tile_fire-out.result ≡ (row c.args.set.now c.args.p.0 (Tile c.args.tile.now.state) (values_of c.in-Ok.given)).sent
 sent g c =
-    out_is c.args.set.now c.args.p.0 c.args.tile.now.state c.args.ends.now c.deref-code.result.now (values_of c.in-Ok.given) c.tile_fire-out.result c.requires.ends
-    (c.deref-code.ensures.value ∙ c.requires.code) c.tile_fire-out.ensures.out
+    out_is c.args.set.now c.args.p.0 c.args.tile.now.state c.args.ends.now c.deref-code.result.now (values_of c.in-Ok.given) c.tile_fire-out.result c.requires.stands.on.ends_are
+    (c.deref-code.ensures.value ∙ c.requires.stands.code) c.tile_fire-out.ensures.out
 
 pub take_operands-requires-clause-needs : goal.take_operands-requires-clause-needs
 take_operands-requires-clause-needs g c = record { p = c.args.p.0; l = Tile c.args.tile.now.state; needs = needs g (goal.at.take_operands-requires-clause-needs g c).After-step_wires-needs }
@@ -37,12 +37,12 @@ take_operands-requires-clause-needs g c = record { p = c.args.p.0; l = Tile c.ar
 pub tile_fire-out-requires-clause-count : goal.tile_fire-out-requires-clause-count
 tile_fire-out-requires-clause-count g c =
     let below = leb-false c.args.set.now.limit c.args.tile.now.state.count (or_parts (is_ended c.args.tile.now.state.mark) _ c.requires.going).1 in
-    let few = c.requires.valid.few_steps in
+    let few = c.requires.stands.on.valid.few_steps in
     omega (arith, below, few)
 
 pub tile_fire-out-requires-clause-given : goal.tile_fire-out-requires-clause-given
 tile_fire-out-requires-clause-given g c =
-    let networks = has_networks c.args.set.now.topo c.args.p.0 c.args.ends.now c.requires.valid.topology c.requires.tile c.requires.ends in
+    let networks = has_networks c.args.set.now.topo c.args.p.0 c.args.ends.now c.requires.stands.on.valid.topology c.requires.stands.there c.requires.stands.on.ends_are in
     record {
       first = c.in-Ok.ensures.first ∙ c.step_wires-needs.ensures.first networks ∙ ap takes_first (sym c.tile_step-step.ensures);
       second = c.in-Ok.ensures.second ∙ c.step_wires-needs.ensures.second networks ∙ ap takes_second (sym c.tile_step-step.ensures);
@@ -51,22 +51,22 @@ tile_fire-out-requires-clause-given g c =
 pub touch-requires-clause-few : goal.touch-requires-clause-few
 touch-requires-clause-few g c =
     let below = leb-false c.args.set.now.limit c.args.tile.now.state.count (or_parts (is_ended c.args.tile.now.state.mark) _ c.requires.going).1 in
-    let few = c.requires.valid.few_steps in
-    omega (arith, below, few, c.requires.few)
+    let few = c.requires.stands.on.valid.few_steps in
+    omega (arith, below, few, c.requires.stands.few)
 
 pub put_out-requires-clause-there : goal.put_out-requires-clause-there
 put_out-requires-clause-there g c =
     let l = Tile c.args.tile.now.state in
     let took = c.in-Ok.ensures.met c.args.p.0 l (needs g (goal.at.put_out-requires-clause-there g c).After-step_wires-needs) in
     put_there c.args.set.now c.args.p.0 l (values_of c.in-Ok.given) (length c.take_operands.new.wires) _ (sent g (goal.at.put_out-requires-clause-there g c).After-tile_fire-out)
-    (ap length took.rest ∙ length-taken (takes c.args.set.now c.args.p.0 l) c.args.wires.now ∙ c.requires.wires)
+    (ap length took.rest ∙ length-taken (takes c.args.set.now c.args.p.0 l) c.args.wires.now ∙ c.requires.stands.on.each)
 
 pub put_out-requires-clause-room : goal.put_out-requires-clause-room
 put_out-requires-clause-room g c =
     let l = Tile c.args.tile.now.state in
     let took = c.in-Ok.ensures.met c.args.p.0 l (needs g (goal.at.put_out-requires-clause-room g c).After-step_wires-needs) in
     put_room c.args.set.now c.args.p.0 l (values_of c.in-Ok.given) c.args.wires.now c.take_operands.new.wires _ (sent g (goal.at.put_out-requires-clause-room g c).After-tile_fire-out)
-    c.requires.valid.small_depth took
+    c.requires.stands.on.valid.small_depth took
 
 pub returns-in-Err-clause-turn : goal.returns-in-Err-clause-turn
 returns-in-Err-clause-turn g c =
@@ -84,7 +84,7 @@ returns-in-Err-clause-turn g c =
 pub returns-in-Ok-clause-turn : goal.returns-in-Ok-clause-turn
 returns-in-Ok-clause-turn g c =
     let took = c.in-Ok.ensures.met c.args.p.0 (Tile c.args.tile.now.state) (needs g (goal.at.returns-in-Ok-clause-turn g c).After-step_wires-needs) in
-    let own = c.deref-code.ensures.value ∙ c.requires.code in
+    let own = c.deref-code.ensures.value ∙ c.requires.stands.code in
     let touched = touched_by c.args.set.now c.args.p.0 c.args.tile.now c.args.wires.now c.take_operands.new.wires (values_of c.in-Ok.given) c.tile_fire-out.result.touched took
     (ap (λ (o : TileOut). o.touched) c.tile_fire-out.ensures.out ∙ ap (λ code. (tile_effect code c.args.tile.now.state (values_of c.in-Ok.given)).touched) own) in
     record {
@@ -108,7 +108,7 @@ returns-in-Ok-clause-told g c = λ fired.
     let l = Tile c.args.tile.now.state in
     let values = values_of c.in-Ok.given in
     let needs = needs g at.After-step_wires-needs in
-    let own = c.deref-code.ensures.value ∙ c.requires.code in
+    let own = c.deref-code.ensures.value ∙ c.requires.stands.code in
     subst (g.T.Tells.has c.tell.new.self)
     (told_is set c.args.p.0 l c.args.wires.now c.take_operands.new.wires values _ _ _ _ _ (c.in-Ok.ensures.met c.args.p.0 l needs) needs.takes (sent g at.After-tile_fire-out)
     (ap (λ (o : TileOut). o.touched) c.tile_fire-out.ensures.out ∙ ap (λ code. (tile_effect code c.args.tile.now.state values).touched) own)

@@ -24,8 +24,8 @@ use Rattle.raw_serial.proofs.turns.step_switch.Goals.{After-switch_needs-needs, 
 needs : (g : Over) (c : After-switch_needs-needs g)
     → AreNeedsOf c.args.set.now c.args.p.0 (Switch c.args.switch.now.state) c.args.ends.now (wires_in c.switch_needs-needs.result.inputs c.args.ends.now.inputs) (wires_in c.switch_needs-needs.result.outputs c.args.ends.now.outputs)
 needs g c =
-    switch_needs c.args.set.now c.args.p.0 c.args.switch.now.state c.args.ends.now c.deref-code.result.now _ _ c.requires.ends (c.deref-code.ensures.value ∙ c.requires.code)
-    (c.switch_needs-needs.ensures.takes c.args.set.now.topo c.args.p.0 c.args.ends.now c.requires.ends) (c.switch_needs-needs.ensures.sends c.args.set.now.topo c.args.p.0 c.args.ends.now c.requires.ends)
+    switch_needs c.args.set.now c.args.p.0 c.args.switch.now.state c.args.ends.now c.deref-code.result.now _ _ c.requires.stands.on.ends_are (c.deref-code.ensures.value ∙ c.requires.stands.code)
+    (c.switch_needs-needs.ensures.takes c.args.set.now.topo c.args.p.0 c.args.ends.now c.requires.stands.on.ends_are) (c.switch_needs-needs.ensures.sends c.args.set.now.topo c.args.p.0 c.args.ends.now c.requires.stands.on.ends_are)
 
 -- the values that it takes, how they are given to it, and what it sends
 abbrev values : (g : Over) → After-take_inputs-given g → List ℕ
@@ -34,13 +34,13 @@ values g c = fronts (wires_in c.switch_needs-needs.result.inputs c.args.ends.now
 given : (g : Over) (c : After-take_inputs-given g) → c.take_inputs-given.result ≡ given_to c.args.set.now.topo c.args.p.0 (next_instruction c.deref-code.result.now c.args.switch.now.state) (values g c)
 given g c =
     c.take_inputs-given.ensures.given
-    ∙ given_next c.args.set.now.topo c.args.p.0 c.args.ends.now (next_instruction c.deref-code.result.now c.args.switch.now.state) c.switch_needs-needs.result.inputs (values g c) c.requires.ends
-    (some_inside c.deref-code.result.now c.args.switch.now.state.pc (search (rules, (c.deref-code.ensures.value ∙ c.requires.code)))) c.switch_needs-needs.ensures.inputs
+    ∙ given_next c.args.set.now.topo c.args.p.0 c.args.ends.now (next_instruction c.deref-code.result.now c.args.switch.now.state) c.switch_needs-needs.result.inputs (values g c) c.requires.stands.on.ends_are
+    (some_inside c.deref-code.result.now c.args.switch.now.state.pc (search (rules, (c.deref-code.ensures.value ∙ c.requires.stands.code)))) c.switch_needs-needs.ensures.inputs
 
 sent : (g : Over) (c : After-take_inputs-given g) → sent_at c.args.ends.now.outputs (routed c.instruction-step.result.now c.args.switch.now.state.regs c.take_inputs-given.result)
     ≡ (row c.args.set.now c.args.p.0 (Switch c.args.switch.now.state) (values g c)).sent
 sent g c =
-    sent_is c.args.set.now c.args.p.0 c.args.switch.now.state c.args.ends.now c.deref-code.result.now (values g c) c.take_inputs-given.result _ c.requires.ends (c.deref-code.ensures.value ∙ c.requires.code) (given g c)
+    sent_is c.args.set.now c.args.p.0 c.args.switch.now.state c.args.ends.now c.deref-code.result.now (values g c) c.take_inputs-given.result _ c.requires.stands.on.ends_are (c.deref-code.ensures.value ∙ c.requires.stands.code) (given g c)
     (sym (ap (λ (next : Option SwitchInstruction). (effect_of next (length c.deref-code.result.now) c.args.switch.now.state c.take_inputs-given.result).sent) c.instruction-step.ensures))
 
 pub unmet_at-requires-clause-needs : goal.unmet_at-requires-clause-needs
@@ -55,7 +55,7 @@ take_inputs-given-requires g c =
 pub switch_fire-requires-clause-count : goal.switch_fire-requires-clause-count
 switch_fire-requires-clause-count g c =
     let below = leb-false c.args.set.now.limit c.args.switch.now.state.count (or_parts (is_ended c.args.switch.now.state.mark) _ c.requires.going).1 in
-    let few = c.requires.valid.few_steps in
+    let few = c.requires.stands.on.valid.few_steps in
     omega (arith, below, few)
 
 pub switch_fire-requires-clause-given : goal.switch_fire-requires-clause-given
@@ -63,22 +63,22 @@ switch_fire-requires-clause-given g c =
     subst (λ (next : Option SwitchInstruction). IsGivenFor next c.take_inputs-given.result) c.instruction-step.ensures
     (subst (λ (given : List (Option ℕ)). IsGivenFor (next_instruction c.deref-code.result.now c.args.switch.now.state) given) (sym c.take_inputs-given.ensures.given)
     (given_for c.args.set.now.topo c.args.p.0 c.args.ends.now (next_instruction c.deref-code.result.now c.args.switch.now.state) c.switch_needs-needs.result.inputs
-    (fronts (wires_in c.switch_needs-needs.result.inputs c.args.ends.now.inputs) c.args.wires.now) c.requires.ends
-    (λ ins e. wired_next c.args.set.now c.requires.valid c.args.p.0 (placed c.args.set.now.topo c.args.p.0 proc.Switch c.requires.switch).0 c.args.switch.now.state ins (ap (λ code. next_instruction code c.args.switch.now.state) (sym (c.deref-code.ensures.value ∙ c.requires.code)) ∙ e))
+    (fronts (wires_in c.switch_needs-needs.result.inputs c.args.ends.now.inputs) c.args.wires.now) c.requires.stands.on.ends_are
+    (λ ins e. wired_next c.args.set.now c.requires.stands.on.valid c.args.p.0 (placed c.args.set.now.topo c.args.p.0 proc.Switch c.requires.stands.there).0 c.args.switch.now.state ins (ap (λ code. next_instruction code c.args.switch.now.state) (sym (c.deref-code.ensures.value ∙ c.requires.stands.code)) ∙ e))
     c.switch_needs-needs.ensures.inputs))
 
 pub put_routes-requires-clause-there : goal.put_routes-requires-clause-there
 put_routes-requires-clause-there g c =
     let at = (goal.at.put_routes-requires-clause-there g c).After-take_inputs-given in
     put_there c.args.set.now c.args.p.0 (Switch c.args.switch.now.state) (values g at) (length c.take_inputs-given.new.self) _ (sent g at)
-    (ap length c.take_inputs-given.ensures.rest ∙ length-taken (wires_in c.switch_needs-needs.result.inputs c.args.ends.now.inputs) c.args.wires.now ∙ c.requires.wires)
+    (ap length c.take_inputs-given.ensures.rest ∙ length-taken (wires_in c.switch_needs-needs.result.inputs c.args.ends.now.inputs) c.args.wires.now ∙ c.requires.stands.on.each)
 
 pub put_routes-requires-clause-room : goal.put_routes-requires-clause-room
 put_routes-requires-clause-room g c =
     let l = Switch c.args.switch.now.state in
     let at = (goal.at.put_routes-requires-clause-room g c).After-take_inputs-given in
     let needs = needs g (goal.at.put_routes-requires-clause-room g c).After-switch_needs-needs in
-    put_room c.args.set.now c.args.p.0 l (values g at) c.args.wires.now c.take_inputs-given.new.self _ (sent g at) c.requires.valid.small_depth
+    put_room c.args.set.now c.args.p.0 l (values g at) c.args.wires.now c.take_inputs-given.new.self _ (sent g at) c.requires.stands.on.valid.small_depth
     (is_taken c.args.set.now c.args.p.0 l c.args.wires.now c.args.ends.now _ _ _ _ needs (sym (c.in_default.ensures c.args.p.0 l needs)) refl c.take_inputs-given.ensures.rest)
 
 pub returns-in-Some-clause-turn : goal.returns-in-Some-clause-turn
@@ -106,7 +106,7 @@ returns-clause-turn g c =
           (ap Switch (c.switch_fire.ensures
           ∙ ap (λ (next : Option SwitchInstruction). (effect_of next (length c.deref-code.result.now) c.args.switch.now.state c.take_inputs-given.result).next) (sym c.instruction-step.ensures)
           ∙ ap (λ (g : List (Option ℕ)). (switch_row c.deref-code.result.now c.args.switch.now.state g).next) (given g at)
-          ∙ ap (λ code. (effect_with c.args.set.now.topo c.args.p.0 code c.args.switch.now.state (values g at)).next) (c.deref-code.ensures.value ∙ c.requires.code)))
+          ∙ ap (λ code. (effect_with c.args.set.now.topo c.args.p.0 code c.args.switch.now.state (values g at)).next) (c.deref-code.ensures.value ∙ c.requires.stands.code)))
           (c.put_routes.ensures ∙ ap (λ (ms : List Sent). appended ms c.take_inputs-given.new.self) (sent g at));
       code = refl;
     }

@@ -21,10 +21,10 @@ turn_processor-requires-clause-fits c =
     let now = now_of c.args.set.now c.args.p.0 c.args.processor.now c.turns.processor c.args.wires.now c.turns.wires c.args.most c.turns.left c.requires.of c.turns.invariant in
     fit_here c.args.set.now now.ends now.processors c.turns.wires now.parts c.args.p.0 c.turns.processor now.here
 
-pub turn_processor-requires-clause-wires : goal.turn_processor-requires-clause-wires
-turn_processor-requires-clause-wires c =
+pub turn_processor-requires-clause-ends : goal.turn_processor-requires-clause-ends
+turn_processor-requires-clause-ends c =
     let now = now_of c.args.set.now c.args.p.0 c.args.processor.now c.turns.processor c.args.wires.now c.turns.wires c.args.most c.turns.left c.requires.of c.turns.invariant in
-    now.parts.fits.wires
+    record { valid = now.parts.valid; ends_are = c.requires.ends; each = now.parts.fits.wires }
 
 pub turns-preserved : goal.turns-preserved
 turns-preserved c =

@@ -18,7 +18,7 @@ fired : (g : Over) (c : In-Fired g) → (is_stopped c.args.set.now c.args.p.0 (S
 fired g c = fired_needs c.args.set.now c.args.p.0 (Sink c.args.state.now.local) c.args.wires.now (sym c.in-Fired.is ∙ c.ask_sink.ensures)
 
 needs : (g : Over) (c : In-Fired g) → AreNeedsOf c.args.set.now c.args.p.0 (Sink c.args.state.now.local) c.args.ends.now (option_to_list (slice_index_or c.args.ends.now.inputs 4 None) ++ option_to_list (slice_index_or c.args.ends.now.inputs 9 None)) []
-needs g c = record { ends = c.requires.ends; takes = sink_wires c.args.set.now c.args.p.0 c.args.ends.now c.requires.ends; sends = refl }
+needs g c = record { ends = c.requires.ends.ends_are; takes = sink_wires c.args.set.now c.args.p.0 c.args.ends.now c.requires.ends.ends_are; sends = refl }
 
 pub take_pair-given-requires : goal.take_pair-given-requires
 take_pair-given-requires g c =
@@ -35,7 +35,7 @@ pub fire_sink-requires-clause-count : goal.fire_sink-requires-clause-count
 fire_sink-requires-clause-count g c =
     let going = (fired g (goal.at.fire_sink-requires-clause-count g c).In-Fired).0 in
     let below = leb-false (capacity_of (port_program c.args.set.now c.args.p.0)) c.args.state.now.local.done going in
-    omega (arith, below, capacity_few c.args.set.now c.args.p.0 c.requires.valid)
+    omega (arith, below, capacity_few c.args.set.now c.args.p.0 c.requires.ends.valid)
 
 pub returns-in-Fired-clause-turn : goal.returns-in-Fired-clause-turn
 returns-in-Fired-clause-turn g c =

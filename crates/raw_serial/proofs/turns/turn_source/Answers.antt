@@ -21,7 +21,7 @@ took g c =
 
 sent : (g : Over) (c : After-fire_source-word g) → sent_by_source c.args.ends.now c.fire_source-word.result ≡ (row c.args.set.now c.args.p.0 (Source c.args.state.now.local) []).sent
 sent g c =
-    source_sent c.args.set.now c.args.p.0 c.args.ends.now _ c.words_of.result.now c.args.state.now.local c.fire_source-word.result c.requires.ends c.words_of.ensures c.fire_source-word.ensures.word
+    source_sent c.args.set.now c.args.p.0 c.args.ends.now _ c.words_of.result.now c.args.state.now.local c.fire_source-word.result c.requires.ends.ends_are c.words_of.ensures c.fire_source-word.ensures.word
 
 pub fire_source-word-requires : goal.fire_source-word-requires
 fire_source-word-requires g c =
@@ -31,12 +31,12 @@ fire_source-word-requires g c =
 
 pub put_out-requires-clause-there : goal.put_out-requires-clause-there
 put_out-requires-clause-there g c =
-    put_there c.args.set.now c.args.p.0 (Source c.args.state.now.local) [] (length c.args.wires.now) _ (sent g (goal.at.put_out-requires-clause-there g c).After-fire_source-word) c.requires.wires
+    put_there c.args.set.now c.args.p.0 (Source c.args.state.now.local) [] (length c.args.wires.now) _ (sent g (goal.at.put_out-requires-clause-there g c).After-fire_source-word) c.requires.ends.each
 
 pub put_out-requires-clause-room : goal.put_out-requires-clause-room
 put_out-requires-clause-room g c =
     put_room c.args.set.now c.args.p.0 (Source c.args.state.now.local) [] c.args.wires.now c.args.wires.now _
-    (sent g (goal.at.put_out-requires-clause-room g c).After-fire_source-word) c.requires.valid.small_depth (took g (goal.at.put_out-requires-clause-room g c).In-Fired)
+    (sent g (goal.at.put_out-requires-clause-room g c).After-fire_source-word) c.requires.ends.valid.small_depth (took g (goal.at.put_out-requires-clause-room g c).In-Fired)
 
 pub returns-in-Fired-clause-turn : goal.returns-in-Fired-clause-turn
 returns-in-Fired-clause-turn g c =

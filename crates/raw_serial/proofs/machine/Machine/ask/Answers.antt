@@ -22,9 +22,12 @@ here c =
     c.index-2.result.now c.index-2.ensures
 
 pub ask_processor-requires-clause-ends : goal.ask_processor-requires-clause-ends
-ask_processor-requires-clause-ends c =
-    ends_at c.self.inside.set.now c.self.inside.ends.items c.self.inside.processors.items c.self.inside.wires c.self.invariant c.args.p.0 (below c)
-    c.index.result.now c.index.ensures
+ask_processor-requires-clause-ends c = record {
+  valid = c.self.invariant.valid;
+  ends_are = ends_at c.self.inside.set.now c.self.inside.ends.items c.self.inside.processors.items c.self.inside.wires c.self.invariant c.args.p.0 (below c)
+      c.index.result.now c.index.ensures;
+  each = c.self.invariant.fits.wires;
+}
 
 pub ask_processor-requires-clause-kept : goal.ask_processor-requires-clause-kept
 ask_processor-requires-clause-kept c = c.self.invariant.kept c.args.p.0 c.index-2.result.now (here c)

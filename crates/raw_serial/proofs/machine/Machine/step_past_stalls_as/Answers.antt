@@ -1,9 +1,9 @@
-use Rattle.std.proofs.Common.{◌≡◌, ◌<◌, ap, sym, subst, ◌∙◌, Some}
-use Rattle.raw_grid.specs.Topology.{proc_count, kind_at}
+use Rattle.std.proofs.Common.{◌≡◌, ap, sym, subst, ◌∙◌}
 use Rattle.raw_model.specs.Program.{ProgramSet}
 use Rattle.raw_serial.specs.Running.{Running, turn_of, IsStep}
 use Rattle.raw_serial.specs.Leading.{past_stalls}
 use Rattle.raw_serial.proofs.Leading.{past_one, past_none, stalled_going}
+use Rattle.raw_serial.specs.Standing.{IsOfKind}
 use Rattle.raw_serial.proofs.machine.Machine.step_past_stalls_as.Goals as goal
 
 pub stalls-preserved : goal.stalls-preserved
@@ -26,7 +26,4 @@ returns-in_default c =
     }
 
 pub try_step_as-requires : goal.try_step_as-requires
-try_step_as-requires c = record {
-  proc = subst (λ (g : ProgramSet). c.args.p.0 < proc_count g.topo) (sym c.stalls.invariant.0) c.requires.proc;
-  kind = subst (λ (g : ProgramSet). kind_at g.topo c.args.p.0 ≡ Some c.args.kind) (sym c.stalls.invariant.0) c.requires.kind;
-}
+try_step_as-requires c = subst (λ (g : ProgramSet). IsOfKind g.topo c.args.p.0 c.args.kind) (sym c.stalls.invariant.0) c.requires

@@ -20,9 +20,12 @@ here g c =
     c.index_mut-processor.result.now c.index_mut-processor.ensures.value
 
 pub turn_processor-requires-clause-ends : goal.turn_processor-requires-clause-ends
-turn_processor-requires-clause-ends g c =
-    ends_at c.self.inside.set.now c.self.inside.ends.items c.self.inside.processors.items c.self.inside.wires c.self.invariant c.args.p.0 (below g (goal.at.turn_processor-requires-clause-ends g c).After-index_mut-processor)
-    c.index-ends.result.now c.index-ends.ensures
+turn_processor-requires-clause-ends g c = record {
+  valid = c.self.invariant.valid;
+  ends_are = ends_at c.self.inside.set.now c.self.inside.ends.items c.self.inside.processors.items c.self.inside.wires c.self.invariant c.args.p.0 (below g (goal.at.turn_processor-requires-clause-ends g c).After-index_mut-processor)
+      c.index-ends.result.now c.index-ends.ensures;
+  each = c.self.invariant.fits.wires;
+}
 
 pub turn_processor-requires-clause-kept : goal.turn_processor-requires-clause-kept
 turn_processor-requires-clause-kept g c = c.self.invariant.kept c.args.p.0 c.index_mut-processor.result.now (here g (goal.at.turn_processor-requires-clause-kept g c).After-index_mut-processor)
