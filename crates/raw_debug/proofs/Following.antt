@@ -6,16 +6,18 @@ use Rattle.std.specs.Result.{IsErrAnd}
 use Rattle.raw_io.specs.Sights.{Sight}
 use Rattle.raw_io.specs.Writing.{Writes}
 use Rattle.raw_grid.specs.declared.parts.ProcId.{ProcId}
+use Rattle.raw_grid.specs.Topology.{proc_count}
 use Rattle.raw_model.specs.Program.{ProgramSet, IsSet}
 use Rattle.raw_debug.specs.declared.debugging.DebugRefusal.{DebugRefusal}
 use Rattle.raw_debug.specs.declared.debugging.DebugRefusal.TheVariants.{Fault}
+use Rattle.raw_debug.specs.declared.debugging.Position.{Position}
 use Rattle.raw_debug.specs.declared.copies.Copies.{Copies}
 use Rattle.raw_debug.specs.declared.walk.Walk.{Walk}
 use Rattle.raw_debug.specs.Commands.{LabelPlaces, Meaning, first_processor, led_to, led_by, meaning_of, readings_from, readings, bad_command}
 use Rattle.raw_debug.specs.Commands.Meaning.{Blank, Says}
-use Rattle.raw_debug.specs.Walking.{IsFresh, AreOn}
+use Rattle.raw_debug.specs.Walking.{IsFresh, AreOn, IsLedWith}
 use Rattle.raw_debug.specs.Script.{Spot, first_spot, leads_to, moved, moved_by, is_past, script_text_of, line_text, text_from, script_text, IsRunThrough}
-use Rattle.raw_debug.specs.Debugging.{PositionStands}
+use Rattle.raw_debug.specs.Debugging.{PositionStands, HasMoved}
 use Rattle.raw_debug.proofs.Walks.{fresh_done}
 use Rattle.raw_debug.proofs.Readings.{AreLeft, here, left_is, left_after, found, none_more}
 
@@ -56,6 +58,19 @@ some_tile : (a b : ℕ) → 1 ≤ a → 1 ≤ b → 1 ≤ a * b
 some_tile zero b first second = absurd (omega (arith, first))
 some_tile (suc a) zero first second = absurd (omega (arith, second))
 some_tile (suc a) (suc b) first second = omega arith
+
+-- where the machine was led beside its copies, and the current processor is the same
+pub has_moved : (old new : Position) → new.current ≡ old.current → IsLedWith old.walk new.walk new.copies.walks.items → PositionStands old → HasMoved old new old.current
+has_moved old new same went stands = record {
+  set = went.set;
+  current = same;
+  stands = record {
+    under_way = went.under_way;
+    copies = went.copies;
+    there = subst (λ (q : ProcId). q.0 < proc_count new.walk.machine.set.topo) (sym same)
+        (subst (λ (g : ProgramSet). old.current.0 < proc_count g.topo) (sym went.set) stands.there);
+  };
+}
 
 -- a machine that starts stands at the first place
 pub fresh_stands : (of : ProgramSet) (walk : Walk) (copies : Copies) → IsFresh of walk → AreOn of copies.walks.items

@@ -1,11 +1,12 @@
 -- The serial order of a machine's steps, and where in it a step of a processor stands.
-use Rattle.std.specs.Prelude.{◌≡◌, ℕ, zero, suc, ◌+◌, ◌<◌, ◌≤◌, Bool, true, false, ◌==◌, nat_le, Option, Some, None, List, [], ◌∷◌, ◌++◌, take, length, slice_index, if◌then◌else◌}
+use Rattle.std.specs.Prelude.{◌≡◌, ℕ, zero, suc, ◌+◌, ◌<◌, ◌≤◌, Bool, true, false, ◌==◌, nat_le, Option, Some, None, List, [], ◌∷◌, ◌++◌, take, length, slice_index, IfSome, if◌then◌else◌}
 use Rattle.std.specs.List.{All, range_with_len}
 use Rattle.raw_network.specs.Network.{count_of}
+use Rattle.raw_grid.specs.declared.parts.ProcId.{ProcId}
 use Rattle.raw_grid.specs.Topology.{proc_count}
 use Rattle.raw_model.specs.Program.{ProgramSet}
 use Rattle.raw_model.specs.Start.{MachineState, start}
-use Rattle.raw_model.specs.Rest.{enabled, step, end, passed_on, stopped}
+use Rattle.raw_model.specs.Rest.{enabled, step, end, passed_on, stopped, IsQuiet}
 use Rattle.raw_model.specs.Serial.{sweep_over, sweeps, serial}
 use Rattle.raw_debug.specs.declared.walk.Walk.{Walk}
 
@@ -76,12 +77,24 @@ abbrev pub IsUnderWay : Walk → Type 0
 IsUnderWay walk = (done : List ℕ) × HasDone walk done
 
 -- it is a machine of this set, and does
-abbrev pub IsOn : ProgramSet → Walk → Type 0
-IsOn set walk = (walk.machine.set ≡ set) × IsUnderWay walk
+pub record IsOn (of : ProgramSet) (walk : Walk) : Type 0 where
+  pub set : walk.machine.set ≡ of
+  pub under_way : IsUnderWay walk
 
 -- each of them is and does
 abbrev pub AreOn : ProgramSet → List Walk → Type 0
 AreOn set walks = All (IsOn set) walks
+
+-- the machine of a walk and its copies stand somewhere in the serial order of its set
+pub record StandsWith (walk : Walk) (kept : List Walk) : Type 0 where
+  pub under_way : IsUnderWay walk
+  pub copies : AreOn walk.machine.set kept
+
+-- it was led elsewhere in that order, where these are its copies
+pub record IsLedWith (old new : Walk) (kept : List Walk) : Type 0 where
+  pub set : new.machine.set ≡ old.machine.set
+  pub under_way : IsUnderWay new
+  pub copies : AreOn new.machine.set kept
 
 -- where a walk led: to a moment, or nowhere
 abbrev pub led : Bool → ℕ → Option ℕ
@@ -131,6 +144,12 @@ pub record HasGoneOn (old new : Walk) (moment : ℕ) : Type 0 where
   pub later : old.moment < new.moment
   pub upto : old.moment < moment → new.moment ≤ moment
   pub within : new.moment ≤ length (serial old.machine.set)
+
+-- the next step of the serial order was taken, by the processor that is told, or there is none
+pub record HasTakenNext (old new : Walk) (stepped : Option ProcId) : Type 0 where
+  pub set : new.machine.set ≡ old.machine.set
+  pub gone : IfSome stepped (λ p. (done : List ℕ) → AtDone old done → HasGone old new p.0 done)
+  pub rests : stepped ≡ None → (done : List ℕ) → AtDone old done → AtDone new done × IsQuiet new.machine.set new.machine.state
 
 -- it stays where it stands
 pub record HasStayed (old new : Walk) : Type 0 where

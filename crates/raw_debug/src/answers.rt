@@ -9,7 +9,7 @@ ghost use Rattle.raw_model.specs.Machine.{tile_code, switch_code};
 ghost use Rattle.raw_model.specs.Outcomes.{outcome};
 ghost use Rattle.raw_model.specs.Serial.{serial};
 ghost use Rattle.raw_report.specs.Report.{outcome_lines};
-ghost use Rattle.raw_debug.specs.Walking.{sent_by, IsUnderWay};
+ghost use Rattle.raw_debug.specs.Walking.{sent_by, IsUnderWay, IsOn};
 ghost use Rattle.raw_debug.specs.Answers.{place_lines, local_lines, memory_lines, wire_lines, wait_lines, tile_text, switch_text, next_tile_text, next_switch_text, next_text, where_line, lines_from, code_lines, passed_line, answer, echo_line};
 ghost use Rattle.raw_debug.specs.Debugging.{shows_here, IsPossible, IsLed};
 
@@ -299,8 +299,7 @@ pub(crate) fn put_echo<L: Tokens, K: Sink>(line: &L, out: &mut K) -> Result<bool
 fn put_passed<K: Sink>(walk: &mut Walk<'_>, wire: WireId, out: &mut K) -> Result<(), Failed>
     requires under_way { IsUnderWay walk.old }
     requires there { wire.0 < length (wires_of walk.old.machine.set.topo) }
-    ensures set { walk.new.machine.set ≡ walk.old.machine.set }
-    ensures under_way { IsUnderWay walk.new }
+    ensures on { IsOn walk.old.machine.set walk.new }
     ensures moment { walk.new.moment ≡ walk.old.moment }
     ensures writes { Writes (K.sight out.old) (K.sight out.new)
         (passed_line wire.0 (sent_by walk.old.machine.set walk.old.moment wire.0)) result }
@@ -356,8 +355,7 @@ pub(crate) fn put_answer<K: Sink>(
     requires there { p.0 < proc_count walk.old.machine.set.topo }
     requires possible { IsPossible walk.old.machine.set p.0 command }
     requires led { IsLed walk.old.machine.set walk.old.moment command }
-    ensures set { walk.new.machine.set ≡ walk.old.machine.set }
-    ensures under_way { IsUnderWay walk.new }
+    ensures on { IsOn walk.old.machine.set walk.new }
     ensures moment { walk.new.moment ≡ walk.old.moment }
     ensures writes { Writes (K.sight out.old) (K.sight out.new)
         (answer walk.old.machine.set walk.old.moment walk.old.machine.state p.0 command) result }

@@ -4,9 +4,9 @@ ghost use Rattle.std.specs.Option.{option_or};
 ghost use Rattle.raw_grid.specs.Topology.{proc_count};
 ghost use Rattle.raw_model.specs.Program.{ProgramSet};
 ghost use Rattle.raw_model.specs.Serial.{serial};
-ghost use Rattle.raw_debug.specs.Walking.{moment_of, led, IsUnderWay, AreOn};
+ghost use Rattle.raw_debug.specs.Walking.{moment_of, led, AreOn, IsOn, StandsWith, IsLedWith};
 ghost use Rattle.raw_debug.specs.Stops.{last_up_to};
-ghost use Rattle.raw_debug.specs.Debugging.{IsPossibleAim};
+ghost use Rattle.raw_debug.specs.Debugging.{MayLookBack};
 
 use crate::command::Aim;
 use crate::walk::{Place, Walk};
@@ -103,12 +103,9 @@ impl<'s> Copies<'s> {
 
     // Takes the machine back to the last copy before a place, where it is at the place or past it.
     fn go_back(&mut self, walk: &mut Walk<'_>, place: Place)
+        requires stands { StandsWith walk.old self.old.walks.items }
         requires there { place.proc.0 < proc_count walk.old.machine.set.topo }
-        requires under_way { IsUnderWay walk.old }
-        requires copies { AreOn walk.old.machine.set self.old.walks.items }
-        ensures set { walk.new.machine.set ≡ walk.old.machine.set }
-        ensures under_way { IsUnderWay walk.new }
-        ensures copies { AreOn walk.new.machine.set self.new.walks.items }
+        ensures { IsLedWith walk.old walk.new self.new.walks.items }
     {
         let steps = place.steps;
         self.give_up(place.proc, steps);
@@ -122,8 +119,7 @@ impl<'s> Copies<'s> {
 
     // Keeps a copy of the machine, where one is free.
     fn keep(&mut self, walk: &Walk<'_>)
-        requires under_way { IsUnderWay walk.now }
-        requires copies { AreOn walk.now.machine.set self.old.walks.items }
+        requires { StandsWith walk.now self.old.walks.items }
         ensures { AreOn walk.now.machine.set self.new.walks.items }
     {
         if self.kept < self.walks.len() {
@@ -145,12 +141,9 @@ impl<'s> Copies<'s> {
     // Goes on toward a place until one step of its processor is left, and keeps a copy half way, half way from there, and
     // so on. Where too few are free for that, those that were kept are given up.
     fn go_by_halves(&mut self, walk: &mut Walk<'_>, place: Place)
+        requires stands { StandsWith walk.old self.old.walks.items }
         requires there { place.proc.0 < proc_count walk.old.machine.set.topo }
-        requires under_way { IsUnderWay walk.old }
-        requires copies { AreOn walk.old.machine.set self.old.walks.items }
-        ensures set { walk.new.machine.set ≡ walk.old.machine.set }
-        ensures under_way { IsUnderWay walk.new }
-        ensures copies { AreOn walk.new.machine.set self.new.walks.items }
+        ensures { IsLedWith walk.old walk.new self.new.walks.items }
     {
         let mut left = place.steps.saturating_sub(walk.machine.count(place.proc));
         self.make_room(u64::BITS - left.leading_zeros());
@@ -170,12 +163,9 @@ impl<'s> Copies<'s> {
     /// Takes the machine to the state right after so many steps of a processor, and says whether the processor has so
     /// many. Back it goes from the last copy before the place, or from the start where there is none.
     pub(crate) fn lead(&mut self, walk: &mut Walk<'_>, place: Place) -> bool
+        requires stands { StandsWith walk.old self.old.walks.items }
         requires there { place.proc.0 < proc_count walk.old.machine.set.topo }
-        requires under_way { IsUnderWay walk.old }
-        requires copies { AreOn walk.old.machine.set self.old.walks.items }
-        ensures set { walk.new.machine.set ≡ walk.old.machine.set }
-        ensures under_way { IsUnderWay walk.new }
-        ensures copies { AreOn walk.new.machine.set self.new.walks.items }
+        ensures went { IsLedWith walk.old walk.new self.new.walks.items }
         ensures led { moment_of walk.old.machine.set place.proc.0 place.steps ≡ led result walk.new.moment }
     {
         self.go_back(walk, place);
@@ -206,11 +196,8 @@ impl<'s> Copies<'s> {
 
     // Takes the machine that is kept last, which is kept no more, and leaves this one in its place.
     fn take_last(&mut self, walk: &mut Walk<'s>)
-        requires under_way { IsUnderWay walk.old }
-        requires copies { AreOn walk.old.machine.set self.old.walks.items }
-        ensures set { walk.new.machine.set ≡ walk.old.machine.set }
-        ensures under_way { IsUnderWay walk.new }
-        ensures copies { AreOn walk.new.machine.set self.new.walks.items }
+        requires { StandsWith walk.old self.old.walks.items }
+        ensures { IsLedWith walk.old walk.new self.new.walks.items }
     {
         let Some(last) = self.kept.checked_sub(1) else {
             return;
@@ -224,11 +211,8 @@ impl<'s> Copies<'s> {
     // Takes the machine to the last copy that stands before a moment, where it is past the moment, or before that copy. One
     // that stands at the moment itself is taken in its place, and none is copied.
     fn take_back(&mut self, walk: &mut Walk<'s>, moment: u64)
-        requires under_way { IsUnderWay walk.old }
-        requires copies { AreOn walk.old.machine.set self.old.walks.items }
-        ensures set { walk.new.machine.set ≡ walk.old.machine.set }
-        ensures under_way { IsUnderWay walk.new }
-        ensures copies { AreOn walk.new.machine.set self.new.walks.items }
+        requires { StandsWith walk.old self.old.walks.items }
+        ensures { IsLedWith walk.old walk.new self.new.walks.items }
     {
         self.give_up_past(moment);
         let Some(at) = self.last_moment() else {
@@ -249,12 +233,9 @@ impl<'s> Copies<'s> {
     /// Takes the machine to a moment: on from where it is, or from the last copy before the moment, or from the start where
     /// there is none.
     pub(crate) fn return_to(&mut self, walk: &mut Walk<'s>, moment: u64)
-        requires under_way { IsUnderWay walk.old }
-        requires copies { AreOn walk.old.machine.set self.old.walks.items }
+        requires stands { StandsWith walk.old self.old.walks.items }
         requires there { moment ≤ length (serial walk.old.machine.set) }
-        ensures set { walk.new.machine.set ≡ walk.old.machine.set }
-        ensures under_way { IsUnderWay walk.new }
-        ensures copies { AreOn walk.new.machine.set self.new.walks.items }
+        ensures went { IsLedWith walk.old walk.new self.new.walks.items }
         ensures moment { walk.new.moment ≡ moment }
     {
         self.take_back(walk, moment);
@@ -275,8 +256,7 @@ impl<'s> Copies<'s> {
     // Keeps a copy of the machine, so many steps behind the one before, and says how many steps on the next one is to be
     // kept. Where none is free, each other one is given up, and that is twice as many.
     fn keep_next(&mut self, walk: &Walk<'_>, steps: u64) -> u64
-        requires under_way { IsUnderWay walk.now }
-        requires copies { AreOn walk.now.machine.set self.old.walks.items }
+        requires { StandsWith walk.now self.old.walks.items }
         ensures { AreOn walk.now.machine.set self.new.walks.items }
     {
         if self.kept < self.walks.len() {
@@ -306,11 +286,8 @@ impl<'s> Copies<'s> {
     /// Takes the machine to the end of the serial order, and keeps copies on the way, at like distances. Where none is free,
     /// each other one is given up, and the distance is doubled.
     pub(crate) fn go_to_rest(&mut self, walk: &mut Walk<'_>)
-        requires under_way { IsUnderWay walk.old }
-        requires copies { AreOn walk.old.machine.set self.old.walks.items }
-        ensures set { walk.new.machine.set ≡ walk.old.machine.set }
-        ensures under_way { IsUnderWay walk.new }
-        ensures copies { AreOn walk.new.machine.set self.new.walks.items }
+        requires { StandsWith walk.old self.old.walks.items }
+        ensures went { IsLedWith walk.old walk.new self.new.walks.items }
         ensures moment { walk.new.moment ≡ length (serial walk.old.machine.set) }
     {
         self.give_up_past(walk.moment);
@@ -334,13 +311,9 @@ impl<'s> Copies<'s> {
         proc: ProcId,
         aim: Aim,
     ) -> Look
-        requires there { proc.0 < proc_count walk.old.machine.set.topo }
-        requires possible { IsPossibleAim walk.old.machine.set proc.0 aim }
-        requires under_way { IsUnderWay walk.old }
-        requires copies { AreOn walk.old.machine.set self.now.walks.items }
-        requires within { moment ≤ length (serial walk.old.machine.set) }
-        ensures set { walk.new.machine.set ≡ walk.old.machine.set }
-        ensures under_way { IsUnderWay walk.new }
+        requires stands { StandsWith walk.old self.now.walks.items }
+        requires back { MayLookBack walk.old.machine.set proc.0 aim moment }
+        ensures on { IsOn walk.old.machine.set walk.new }
         ensures low { result.low ≤ moment }
         ensures latest { last_up_to walk.old.machine.set moment proc.0 aim
             ≡ option_or result.found (last_up_to walk.old.machine.set result.low proc.0 aim) }
@@ -365,13 +338,9 @@ impl<'s> Copies<'s> {
     // Looks for the latest step that does what is aimed at from the start up to a moment, and keeps copies on the way: half
     // way, half way from there, and so on.
     fn look_anew(&mut self, walk: &mut Walk<'_>, moment: u64, proc: ProcId, aim: Aim) -> Option<u64>
-        requires there { proc.0 < proc_count walk.old.machine.set.topo }
-        requires possible { IsPossibleAim walk.old.machine.set proc.0 aim }
-        requires copies { AreOn walk.old.machine.set self.old.walks.items }
-        requires within { moment ≤ length (serial walk.old.machine.set) }
-        ensures set { walk.new.machine.set ≡ walk.old.machine.set }
-        ensures under_way { IsUnderWay walk.new }
-        ensures copies { AreOn walk.new.machine.set self.new.walks.items }
+        requires stands { StandsWith walk.old self.old.walks.items }
+        requires back { MayLookBack walk.old.machine.set proc.0 aim moment }
+        ensures went { IsLedWith walk.old walk.new self.new.walks.items }
         ensures latest { last_up_to walk.old.machine.set moment proc.0 aim ≡ result }
         ensures within { IfSome result (λ n. n ≤ moment) }
     {
@@ -395,13 +364,9 @@ impl<'s> Copies<'s> {
         proc: ProcId,
         aim: Aim,
     ) -> Option<u64>
-        requires there { proc.0 < proc_count walk.old.machine.set.topo }
-        requires possible { IsPossibleAim walk.old.machine.set proc.0 aim }
-        requires copies { AreOn walk.old.machine.set self.old.walks.items }
-        requires within { moment ≤ length (serial walk.old.machine.set) }
-        ensures set { walk.new.machine.set ≡ walk.old.machine.set }
-        ensures under_way { IsUnderWay walk.new }
-        ensures copies { AreOn walk.new.machine.set self.new.walks.items }
+        requires stands { StandsWith walk.old self.old.walks.items }
+        requires back { MayLookBack walk.old.machine.set proc.0 aim moment }
+        ensures went { IsLedWith walk.old walk.new self.new.walks.items }
         ensures latest { last_up_to walk.old.machine.set moment proc.0 aim ≡ result }
         ensures within { IfSome result (λ n. n ≤ moment) }
     {
@@ -416,11 +381,8 @@ impl<'s> Copies<'s> {
 impl<'s> Copies<'s> {
     // Keeps the machine itself, where a place is free, and takes the machine that stands there in its stead.
     fn exchange(&mut self, walk: &mut Walk<'s>)
-        requires under_way { IsUnderWay walk.old }
-        requires copies { AreOn walk.old.machine.set self.old.walks.items }
-        ensures set { walk.new.machine.set ≡ walk.old.machine.set }
-        ensures under_way { IsUnderWay walk.new }
-        ensures copies { AreOn walk.new.machine.set self.new.walks.items }
+        requires { StandsWith walk.old self.old.walks.items }
+        ensures { IsLedWith walk.old walk.new self.new.walks.items }
     {
         if self.kept < self.walks.len() {
             swap(walk, &mut self.walks[self.kept]);
@@ -430,11 +392,8 @@ impl<'s> Copies<'s> {
 
     // The same, where copies are kept and the last one stands before the machine. The first one is given up where none is free.
     fn keep_here(&mut self, walk: &mut Walk<'s>)
-        requires under_way { IsUnderWay walk.old }
-        requires copies { AreOn walk.old.machine.set self.old.walks.items }
-        ensures set { walk.new.machine.set ≡ walk.old.machine.set }
-        ensures under_way { IsUnderWay walk.new }
-        ensures copies { AreOn walk.new.machine.set self.new.walks.items }
+        requires { StandsWith walk.old self.old.walks.items }
+        ensures { IsLedWith walk.old walk.new self.new.walks.items }
     {
         let Some(at) = self.last_moment() else {
             return;
@@ -450,14 +409,9 @@ impl<'s> Copies<'s> {
     /// before it up to that, and so on. The machine ends where it looked last. Where copies are kept, it is kept itself
     /// where it stood, to go back there where there is no such step.
     pub(crate) fn latest(&mut self, walk: &mut Walk<'s>, proc: ProcId, aim: Aim) -> Option<u64>
-        requires there { proc.0 < proc_count walk.old.machine.set.topo }
-        requires possible { IsPossibleAim walk.old.machine.set proc.0 aim }
-        requires under_way { IsUnderWay walk.old }
-        requires copies { AreOn walk.old.machine.set self.old.walks.items }
-        requires moment { walk.old.moment ≤ length (serial walk.old.machine.set) }
-        ensures set { walk.new.machine.set ≡ walk.old.machine.set }
-        ensures under_way { IsUnderWay walk.new }
-        ensures copies { AreOn walk.new.machine.set self.new.walks.items }
+        requires stands { StandsWith walk.old self.old.walks.items }
+        requires back { MayLookBack walk.old.machine.set proc.0 aim walk.old.moment }
+        ensures went { IsLedWith walk.old walk.new self.new.walks.items }
         ensures latest { last_up_to walk.old.machine.set walk.old.moment proc.0 aim ≡ result }
         ensures within { IfSome result (λ n. n ≤ walk.old.moment) }
     {

@@ -8,11 +8,11 @@ ghost use Rattle.raw_model.specs.Serial.{serial};
 ghost use Rattle.raw_lines.specs.LabelsOf.{places_in};
 ghost use Rattle.raw_debug.specs.Commands.{bad_command, led_to, meant};
 ghost use Rattle.raw_debug.specs.Commands.Meaning.{Says};
-ghost use Rattle.raw_debug.specs.Walking.{count_at, moment_of, led};
+ghost use Rattle.raw_debug.specs.Walking.{count_at, moment_of};
 ghost use Rattle.raw_debug.specs.Stops.{stop_after, last_up_to, stopped_after};
 ghost use Rattle.raw_debug.specs.Script.{Spot, first_spot, leads_to, moved_by, goes_past, is_past, past_end, line_text, script_text, IsCause, IsUntouched, IsRunThrough};
 ghost use Rattle.raw_debug.specs.Live.{answer_to, spot_behind};
-ghost use Rattle.raw_debug.specs.Debugging.{PositionStands, IsPossibleAim, IsPossible, IsPossibleReading, spot_of};
+ghost use Rattle.raw_debug.specs.Debugging.{PositionStands, HasMoved, HasLed, IsPossibleAim, IsPossible, IsPossibleReading, spot_of};
 
 use crate::answers::{put_answer, put_echo};
 use crate::command::{Aim, Command, Reading};
@@ -88,11 +88,8 @@ impl Position<'_> {
     // not, it stays.
     fn go_to(&mut self, steps: u64) -> bool
         requires { PositionStands self.old }
-        ensures set { self.new.walk.machine.set ≡ self.old.walk.machine.set }
-        ensures current { self.new.current ≡ self.old.current }
-        ensures led { moment_of self.old.walk.machine.set self.old.current.0 steps ≡ led result self.new.walk.moment }
-        ensures stays { result ≡ false → self.new.walk.moment ≡ self.old.walk.moment }
-        ensures stands { PositionStands self.new }
+        ensures moved { HasMoved self.old self.new self.old.current }
+        ensures led { HasLed (moment_of self.old.walk.machine.set self.old.current.0 steps) result self.old.walk.moment self.new.walk.moment }
     {
         // The set is asked for so that it is known to keep its rules.
         let _set = self.walk.machine.set();
@@ -113,11 +110,8 @@ impl Position<'_> {
     fn go_until(&mut self, aim: Aim) -> bool
         requires stands { PositionStands self.old }
         requires possible { IsPossibleAim self.old.walk.machine.set self.old.current.0 aim }
-        ensures set { self.new.walk.machine.set ≡ self.old.walk.machine.set }
-        ensures current { self.new.current ≡ self.old.current }
-        ensures led { stop_after self.old.walk.machine.set self.old.walk.moment self.old.current.0 aim ≡ led result self.new.walk.moment }
-        ensures stays { result ≡ false → self.new.walk.moment ≡ self.old.walk.moment }
-        ensures stands { PositionStands self.new }
+        ensures moved { HasMoved self.old self.new self.old.current }
+        ensures led { HasLed (stop_after self.old.walk.machine.set self.old.walk.moment self.old.current.0 aim) result self.old.walk.moment self.new.walk.moment }
     {
         let _set = self.walk.machine.set();
         let moment = self.walk.moment;
@@ -133,11 +127,8 @@ impl Position<'_> {
     fn go_to_last(&mut self, aim: Aim) -> bool
         requires stands { PositionStands self.old }
         requires possible { IsPossibleAim self.old.walk.machine.set self.old.current.0 aim }
-        ensures set { self.new.walk.machine.set ≡ self.old.walk.machine.set }
-        ensures current { self.new.current ≡ self.old.current }
-        ensures led { last_up_to self.old.walk.machine.set self.old.walk.moment self.old.current.0 aim ≡ led result self.new.walk.moment }
-        ensures stays { result ≡ false → self.new.walk.moment ≡ self.old.walk.moment }
-        ensures stands { PositionStands self.new }
+        ensures moved { HasMoved self.old self.new self.old.current }
+        ensures led { HasLed (last_up_to self.old.walk.machine.set self.old.walk.moment self.old.current.0 aim) result self.old.walk.moment self.new.walk.moment }
     {
         let _set = self.walk.machine.set();
         let moment = self.walk.moment;
@@ -156,10 +147,8 @@ impl Position<'_> {
     // Goes to the end of the serial order.
     fn go_to_rest(&mut self)
         requires { PositionStands self.old }
-        ensures set { self.new.walk.machine.set ≡ self.old.walk.machine.set }
-        ensures current { self.new.current ≡ self.old.current }
+        ensures moved { HasMoved self.old self.new self.old.current }
         ensures moment { self.new.walk.moment ≡ length (serial self.old.walk.machine.set) }
-        ensures stands { PositionStands self.new }
     {
         self.copies.go_to_rest(&mut self.walk);
     }
@@ -168,11 +157,8 @@ impl Position<'_> {
     // none, it stays.
     fn finish(&mut self) -> bool
         requires { PositionStands self.old }
-        ensures set { self.new.walk.machine.set ≡ self.old.walk.machine.set }
-        ensures current { self.new.current ≡ self.old.current }
-        ensures led { stopped_after self.old.walk.machine.set self.old.walk.moment self.old.current.0 ≡ led result self.new.walk.moment }
-        ensures stays { result ≡ false → self.new.walk.moment ≡ self.old.walk.moment }
-        ensures stands { PositionStands self.new }
+        ensures moved { HasMoved self.old self.new self.old.current }
+        ensures led { HasLed (stopped_after self.old.walk.machine.set self.old.walk.moment self.old.current.0) result self.old.walk.moment self.new.walk.moment }
     {
         let _set = self.walk.machine.set();
         let moment = self.walk.moment;
@@ -190,10 +176,8 @@ impl Position<'_> {
     fn return_to(&mut self, moment: u64)
         requires stands { PositionStands self.old }
         requires there { moment ≤ length (serial self.old.walk.machine.set) }
-        ensures set { self.new.walk.machine.set ≡ self.old.walk.machine.set }
-        ensures current { self.new.current ≡ self.old.current }
+        ensures moved { HasMoved self.old self.new self.old.current }
         ensures moment { self.new.walk.moment ≡ moment }
-        ensures stands { PositionStands self.new }
     {
         self.copies.return_to(&mut self.walk, moment);
     }
@@ -202,11 +186,8 @@ impl Position<'_> {
     fn go(&mut self, command: Command) -> bool
         requires stands { PositionStands self.old }
         requires possible { IsPossible self.old.walk.machine.set self.old.current.0 command }
-        ensures set { self.new.walk.machine.set ≡ self.old.walk.machine.set }
-        ensures current { self.new.current ≡ led_to self.old.current command }
-        ensures led { leads_to self.old.walk.machine.set (spot_of self.old) command ≡ led result self.new.walk.moment }
-        ensures stays { result ≡ false → self.new.walk.moment ≡ self.old.walk.moment }
-        ensures stands { PositionStands self.new }
+        ensures moved { HasMoved self.old self.new (led_to self.old.current command) }
+        ensures led { HasLed (leads_to self.old.walk.machine.set (spot_of self.old) command) result self.old.walk.moment self.new.walk.moment }
     {
         self.current = command.led_to(self.current);
         match command {

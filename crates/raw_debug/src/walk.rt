@@ -10,10 +10,10 @@ ghost use Rattle.raw_model.specs.Serial.{serial};
 ghost use Rattle.raw_processor.specs.Processor.{local_of};
 ghost use Rattle.raw_processor.specs.Given.{taken_by, sent_by as sent_from};
 ghost use Rattle.raw_serial.specs.Within.{IsWithin};
-ghost use Rattle.raw_debug.specs.Walking.{moment_of, sent_by, led, AtDone, IsUnderWay, IsFresh, HasStepped, HasPassed, HasGone, HasGoneOn, HasStayed, HasEnded, PassesStopped};
+ghost use Rattle.raw_debug.specs.Walking.{moment_of, sent_by, led, AtDone, IsUnderWay, IsFresh, HasStepped, HasPassed, HasGone, HasGoneOn, HasStayed, HasEnded, HasTakenNext, IsOn, PassesStopped};
 ghost use Rattle.raw_debug.specs.Stops.{has_pc, word_in, stop_after, last_up_to, sight_of, shows, IsSeenIn, IsLocal, OnlyLast, GoesPast};
 ghost use Rattle.raw_debug.specs.Sending.{IsSent};
-ghost use Rattle.raw_debug.specs.Debugging.{IsPossibleAim};
+ghost use Rattle.raw_debug.specs.Debugging.{IsPossibleAim, CanAim, MaySeek};
 
 use crate::command::Aim;
 use crate::passing::Passing;
@@ -144,11 +144,8 @@ impl Walk<'_> {
     #[inline(always)]
     fn sweep_twice(&mut self) -> Option<ProcId>
         requires { IsUnderWay self.old }
-        ensures set { self.new.machine.set ≡ self.old.machine.set }
         ensures moment { self.new.moment ≡ self.old.moment }
-        ensures gone { IfSome result (λ p. (done : List ℕ) → AtDone self.old done → HasGone self.old self.new p.0 done) }
-        ensures rests { result ≡ None → (done : List ℕ) → AtDone self.old done →
-            AtDone self.new done × IsQuiet self.new.machine.set self.new.machine.state }
+        ensures taken { HasTakenNext self.old self.new result }
     {
         law_wired();
         // The set is asked for so that it is known that the state fits it.
@@ -169,11 +166,8 @@ impl Walk<'_> {
     fn step_alone(&mut self) -> Option<ProcId>
         requires under_way { IsUnderWay self.old }
         requires alone { self.old.alone ≡ true }
-        ensures set { self.new.machine.set ≡ self.old.machine.set }
         ensures moment { self.new.moment ≡ self.old.moment }
-        ensures gone { IfSome result (λ p. (done : List ℕ) → AtDone self.old done → HasGone self.old self.new p.0 done) }
-        ensures rests { result ≡ None → (done : List ℕ) → AtDone self.old done →
-            AtDone self.new done × IsQuiet self.new.machine.set self.new.machine.state }
+        ensures taken { HasTakenNext self.old self.new result }
     {
         law_wired();
         let _set = self.machine.set();
@@ -190,11 +184,8 @@ impl Walk<'_> {
     #[inline(always)]
     fn step_next(&mut self) -> Option<ProcId>
         requires { IsUnderWay self.old }
-        ensures set { self.new.machine.set ≡ self.old.machine.set }
         ensures moment { self.new.moment ≡ self.old.moment }
-        ensures gone { IfSome result (λ p. (done : List ℕ) → AtDone self.old done → HasGone self.old self.new p.0 done) }
-        ensures rests { result ≡ None → (done : List ℕ) → AtDone self.old done →
-            AtDone self.new done × IsQuiet self.new.machine.set self.new.machine.state }
+        ensures taken { HasTakenNext self.old self.new result }
     {
         if self.alone {
             self.step_alone()
@@ -207,12 +198,9 @@ impl Walk<'_> {
     #[inline(always)]
     fn advance(&mut self) -> Option<ProcId>
         requires { IsUnderWay self.old }
-        ensures set { self.new.machine.set ≡ self.old.machine.set }
+        ensures taken { HasTakenNext self.old self.new result }
         ensures moment { IfSome result (λ _. self.new.moment ≡ self.old.moment + 1) }
-        ensures gone { IfSome result (λ p. (done : List ℕ) → AtDone self.old done → HasGone self.old self.new p.0 done) }
         ensures stays { result ≡ None → self.new.moment ≡ self.old.moment }
-        ensures rests { result ≡ None → (done : List ℕ) → AtDone self.old done →
-            AtDone self.new done × IsQuiet self.new.machine.set self.new.machine.state }
     {
         law_serial();
         law_bound();
@@ -269,8 +257,7 @@ impl Walk<'_> {
     // what is to be seen of `proc`.
     #[inline(always)]
     fn advance_by_one(&mut self, moment: u64, proc: ProcId, aim: Aim) -> Option<ProcId>
-        requires under_way { IsUnderWay self.old }
-        requires possible { IsPossibleAim self.old.machine.set proc.0 aim }
+        requires { MaySeek self.old proc.0 aim }
         ensures gone { IfSome result (λ _. HasGoneOn self.old self.new moment) }
         ensures stays { result ≡ None → HasStayed self.old self.new }
         ensures rests { result ≡ None → HasEnded self.old self.new }
@@ -298,8 +285,7 @@ impl Walk<'_> {
     // what is to be seen of `proc`. Says whose the last one was, if there was any.
     #[inline(always)]
     fn advance_past(&mut self, moment: u64, proc: ProcId, aim: Aim) -> Option<ProcId>
-        requires under_way { IsUnderWay self.old }
-        requires possible { IsPossibleAim self.old.machine.set proc.0 aim }
+        requires { MaySeek self.old proc.0 aim }
         ensures gone { IfSome result (λ _. HasGoneOn self.old self.new moment) }
         ensures rests { result ≡ None → HasEnded self.old self.new }
         ensures seen { IfSome result (λ q. OnlyLast self.old self.new q.0 proc.0 aim) }
@@ -318,8 +304,7 @@ impl Walk<'_> {
     // the last one is one of `proc` that does what is aimed at.
     #[inline(always)]
     fn advance_to_sight(&mut self, moment: u64, proc: ProcId, aim: Aim) -> Option<ProcId>
-        requires under_way { IsUnderWay self.old }
-        requires possible { IsPossibleAim self.old.machine.set proc.0 aim }
+        requires { MaySeek self.old proc.0 aim }
         ensures gone { IfSome result (λ _. HasGoneOn self.old self.new moment) }
         ensures rests { result ≡ None → HasEnded self.old self.new }
         ensures seen { IfSome result (λ q. OnlyLast self.old self.new q.0 proc.0 aim) }
@@ -354,8 +339,7 @@ impl Walk<'_> {
     pub(crate) fn go_to(&mut self, place: Place) -> bool
         requires under_way { IsUnderWay self.old }
         requires there { place.proc.0 < proc_count self.old.machine.set.topo }
-        ensures set { self.new.machine.set ≡ self.old.machine.set }
-        ensures under_way { IsUnderWay self.new }
+        ensures on { IsOn self.old.machine.set self.new }
         ensures led { moment_of self.old.machine.set place.proc.0 place.steps ≡ led result self.new.moment }
     {
         law_serial();
@@ -380,8 +364,7 @@ impl Walk<'_> {
     // What the state shows of what is aimed at, before a step.
     #[inline(always)]
     fn sight(&self, proc: ProcId, aim: Aim) -> usize
-        requires there { proc.0 < proc_count self.now.machine.set.topo }
-        requires possible { IsPossibleAim self.now.machine.set proc.0 aim }
+        requires { CanAim self.now.machine.set proc.0 aim }
         ensures { result ≡ sight_of self.now.machine.state proc.0 aim }
     {
         match aim {
@@ -399,8 +382,7 @@ impl Walk<'_> {
     // Whether the state after a step shows what is aimed at, where this was to be seen before it.
     #[inline(always)]
     fn shows(&self, proc: ProcId, aim: Aim, before: usize) -> bool
-        requires there { proc.0 < proc_count self.now.machine.set.topo }
-        requires possible { IsPossibleAim self.now.machine.set proc.0 aim }
+        requires { CanAim self.now.machine.set proc.0 aim }
         ensures { result ≡ shows self.now.machine.state proc.0 aim before }
     {
         match aim {
@@ -429,8 +411,7 @@ impl Walk<'_> {
     // Whether the step of a processor was one of `proc` that does what is aimed at.
     #[inline(always)]
     fn is_met(&self, stepped: ProcId, proc: ProcId, aim: Aim, before: usize) -> bool
-        requires there { proc.0 < proc_count self.now.machine.set.topo }
-        requires possible { IsPossibleAim self.now.machine.set proc.0 aim }
+        requires { CanAim self.now.machine.set proc.0 aim }
         ensures { result ≡ ((stepped.0 == proc.0) && shows self.now.machine.state proc.0 aim before) }
     {
         stepped.0 == proc.0 && self.shows(proc, aim, before)
@@ -439,11 +420,8 @@ impl Walk<'_> {
     /// Goes on until right after the next step of a processor that does what is aimed at, and says whether there is one;
     /// where there is none, it goes to the end.
     pub(crate) fn go_until(&mut self, proc: ProcId, aim: Aim) -> bool
-        requires under_way { IsUnderWay self.old }
-        requires there { proc.0 < proc_count self.old.machine.set.topo }
-        requires possible { IsPossibleAim self.old.machine.set proc.0 aim }
-        ensures set { self.new.machine.set ≡ self.old.machine.set }
-        ensures under_way { IsUnderWay self.new }
+        requires { MaySeek self.old proc.0 aim }
+        ensures on { IsOn self.old.machine.set self.new }
         ensures led { stop_after self.old.machine.set self.old.moment proc.0 aim ≡ led result self.new.moment }
     {
         self.pass_stopped();
@@ -460,13 +438,10 @@ impl Walk<'_> {
 
     /// Goes on to a moment, and says after which of the steps on the way it did last what is aimed at, if one did.
     pub(crate) fn latest_up_to(&mut self, moment: u64, proc: ProcId, aim: Aim) -> Option<u64>
-        requires under_way { IsUnderWay self.old }
-        requires there { proc.0 < proc_count self.old.machine.set.topo }
-        requires possible { IsPossibleAim self.old.machine.set proc.0 aim }
+        requires seek { MaySeek self.old proc.0 aim }
         requires later { self.old.moment ≤ moment }
         requires within { moment ≤ length (serial self.old.machine.set) }
-        ensures set { self.new.machine.set ≡ self.old.machine.set }
-        ensures under_way { IsUnderWay self.new }
+        ensures on { IsOn self.old.machine.set self.new }
         ensures latest { last_up_to self.old.machine.set moment proc.0 aim
             ≡ option_or result (last_up_to self.old.machine.set self.old.moment proc.0 aim) }
         ensures within { IfSome result (λ n. n ≤ moment) }
@@ -495,8 +470,7 @@ impl Walk<'_> {
     /// Goes on by so many steps, and says whether there are so many; where there are not, it goes to the end.
     pub(crate) fn go_on(&mut self, steps: u64) -> bool
         requires { IsUnderWay self.old }
-        ensures set { self.new.machine.set ≡ self.old.machine.set }
-        ensures under_way { IsUnderWay self.new }
+        ensures on { IsOn self.old.machine.set self.new }
         ensures rests { result ≡ false → self.new.moment ≡ length (serial self.old.machine.set) }
     {
         self.pass_stopped();
@@ -512,8 +486,7 @@ impl Walk<'_> {
     /// Goes on to the end of the serial order.
     pub(crate) fn go_to_rest(&mut self)
         requires { IsUnderWay self.old }
-        ensures set { self.new.machine.set ≡ self.old.machine.set }
-        ensures under_way { IsUnderWay self.new }
+        ensures on { IsOn self.old.machine.set self.new }
         ensures moment { self.new.moment ≡ length (serial self.old.machine.set) }
     {
         'steps: loop {
@@ -526,8 +499,7 @@ impl Walk<'_> {
     // Starts anew where it stands past a moment.
     fn restart_past(&mut self, moment: u64)
         requires { IsUnderWay self.old }
-        ensures set { self.new.machine.set ≡ self.old.machine.set }
-        ensures under_way { IsUnderWay self.new }
+        ensures on { IsOn self.old.machine.set self.new }
         ensures upto { self.new.moment ≤ moment }
     {
         if self.moment > moment {
@@ -539,8 +511,7 @@ impl Walk<'_> {
     pub(crate) fn return_to(&mut self, moment: u64)
         requires under_way { IsUnderWay self.old }
         requires there { moment ≤ length (serial self.old.machine.set) }
-        ensures set { self.new.machine.set ≡ self.old.machine.set }
-        ensures under_way { IsUnderWay self.new }
+        ensures on { IsOn self.old.machine.set self.new }
         ensures moment { self.new.moment ≡ moment }
     {
         self.restart_past(moment);
@@ -571,8 +542,7 @@ impl Walk<'_> {
     pub(crate) fn sent_on(&mut self, wire: WireId) -> Sent
         requires under_way { IsUnderWay self.old }
         requires there { wire.0 < length (wires_of self.old.machine.set.topo) }
-        ensures set { self.new.machine.set ≡ self.old.machine.set }
-        ensures under_way { IsUnderWay self.new }
+        ensures on { IsOn self.old.machine.set self.new }
         ensures moment { self.new.moment ≡ self.old.moment }
         ensures sent { IsSent result (sent_by self.old.machine.set self.old.moment wire.0) }
     {

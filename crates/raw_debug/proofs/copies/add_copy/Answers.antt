@@ -16,4 +16,4 @@ one_more (Err e) set old new walk all on is = subst (AreOn set) (sym is) all
 pub returns : goal.returns
 returns c =
     one_more c.push.result c.args.set.now c.args.walks.now.items c.push.new.self.items c.in-Ok.walk c.requires
-    (c.in-Ok.ensures.set, ([], fresh_done c.args.set.now c.in-Ok.walk c.in-Ok.ensures)) c.push.ensures.items
+    (record { set = c.in-Ok.ensures.set; under_way = ([], fresh_done c.args.set.now c.in-Ok.walk c.in-Ok.ensures) }) c.push.ensures.items

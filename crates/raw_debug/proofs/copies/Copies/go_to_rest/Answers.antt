@@ -1,18 +1,22 @@
-use Rattle.std.proofs.Common.{refl, sym, subst, ◌∙◌}
-use Rattle.raw_debug.specs.Walking.{AreOn}
+use Rattle.std.proofs.Common.{ap, ◌∙◌}
+use Rattle.raw_debug.proofs.Copying.{unmoved, led_stands, led_on, led_then}
 use Rattle.raw_debug.proofs.copies.Copies.go_to_rest.Goals as goal
 
 pub loop-part-init : goal.loop-part-init
-loop-part-init c = (refl, c.requires.under_way, subst (λ walks. AreOn c.args.walk.now.machine.set walks.items) (sym c.give_up_past.ensures) c.requires.copies)
+loop-part-init c = unmoved c.args.walk.now _ _ (ap (λ walks. walks.items) c.give_up_past.ensures) c.requires
 
-pub returns-then-not-go_on-clause-copies : goal.returns-then-not-go_on-clause-copies
-returns-then-not-go_on-clause-copies c = subst (λ g. AreOn g c.loop-part.self.walks.items) (sym c.go_on.ensures.set) c.loop-part.invariant.2
+pub returns-then-not-go_on-clause-went : goal.returns-then-not-go_on-clause-went
+returns-then-not-go_on-clause-went c = led_then c.args.walk.now c.loop-part.walk c.go_on.new.self c.loop-part.self.walks.items c.loop-part.invariant c.go_on.ensures.on
 
-pub keep_next-steps-requires-clause-copies : goal.keep_next-steps-requires-clause-copies
-keep_next-steps-requires-clause-copies c = subst (λ g. AreOn g c.loop-part.self.walks.items) (sym c.go_on.ensures.set) c.loop-part.invariant.2
+pub keep_next-steps-requires : goal.keep_next-steps-requires
+keep_next-steps-requires c = led_stands c.loop-part.walk c.go_on.new.self c.loop-part.self.walks.items (led_on c.loop-part.walk c.go_on.new.self c.loop-part.self.walks.items c.loop-part.invariant.copies c.go_on.ensures.on)
 
 pub loop-part-preserved : goal.loop-part-preserved
-loop-part-preserved c = (c.go_on.ensures.set ∙ c.loop-part.invariant.0, c.go_on.ensures.under_way, c.keep_next-steps.ensures)
+loop-part-preserved c = record {
+  set = c.go_on.ensures.on.set ∙ c.loop-part.invariant.set;
+  under_way = c.go_on.ensures.on.under_way;
+  copies = c.keep_next-steps.ensures;
+}
 
-pub returns-clause-copies : goal.returns-clause-copies
-returns-clause-copies c = subst (λ g. AreOn g c.loop-part.self.walks.items) (sym c.go_to_rest.ensures.set) c.loop-part.invariant.2
+pub returns-clause-went : goal.returns-clause-went
+returns-clause-went c = led_then c.args.walk.now c.loop-part.walk c.go_to_rest.new.self c.loop-part.self.walks.items c.loop-part.invariant c.go_to_rest.ensures.on

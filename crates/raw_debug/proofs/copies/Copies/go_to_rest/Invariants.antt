@@ -1,9 +1,5 @@
-use Rattle.std.proofs.Common.{◌≡◌}
-use Rattle.raw_debug.specs.Walking.{IsUnderWay, AreOn}
+use Rattle.raw_debug.specs.Walking.{IsLedWith}
 use Rattle.raw_debug.proofs.copies.Copies.go_to_rest.Given as goal
 
 abbrev pub invariant-loop-part : goal.invariant-loop-part
-invariant-loop-part l =
-    (l.walk.machine.set ≡ l.initial.walk.machine.set)
-    × IsUnderWay l.walk
-    × AreOn l.walk.machine.set l.self.walks.items
+invariant-loop-part l = IsLedWith l.initial.walk l.walk l.self.walks.items

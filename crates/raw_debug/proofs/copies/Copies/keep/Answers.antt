@@ -7,4 +7,4 @@ pub returns-then-self-len : goal.returns-then-self-len
 returns-then-self-len c =
     let set = c.args.walk.now.machine.set in
     All-set (IsOn set) c.args.self.now.walks.items c.args.self.now.kept c.copy_from.new.self
-    (subst (IsOn set) (sym c.copy_from.ensures) (refl, c.requires.under_way)) c.requires.copies
+    (subst (IsOn set) (sym c.copy_from.ensures) (record { set = refl; under_way = c.requires.under_way })) c.requires.copies

@@ -4,6 +4,7 @@ use Rattle.raw_debug.specs.Walking.{AreOn}
 use Rattle.raw_debug.specs.Stops.{last_up_to}
 use Rattle.raw_debug.proofs.Walks.{fresh_done}
 use Rattle.raw_debug.proofs.Searching.{none_before, within_or, found_so_far}
+use Rattle.raw_debug.proofs.Copying.{led_stands, led_on}
 use Rattle.raw_debug.proofs.copies.Copies.look_anew.Goals as goal
 
 pub halves-init : goal.halves-init
@@ -13,14 +14,14 @@ halves-init c =
     record {
       same = c.restart.ensures.set;
       under_way = ([], fresh_done set new c.restart.ensures);
-      copies = subst (λ g. AreOn g c.args.self.now.walks.items) (sym c.restart.ensures.set) c.requires.copies;
+      copies = subst (λ g. AreOn g c.args.self.now.walks.items) (sym c.restart.ensures.set) c.requires.stands.copies;
       upto = omega (arith, c.restart.ensures.moment);
       latest = none_before set c.args.proc.0 new.moment c.args.aim c.restart.ensures.moment;
       within = tt;
     }
 
-pub keep-requires-clause-copies : goal.keep-requires-clause-copies
-keep-requires-clause-copies c = subst (λ g. AreOn g c.halves.self.walks.items) (sym c.latest_up_to.ensures.set) c.halves.invariant.copies
+pub keep-requires : goal.keep-requires
+keep-requires c = led_stands c.halves.walk c.latest_up_to.new.self c.halves.self.walks.items (led_on c.halves.walk c.latest_up_to.new.self c.halves.self.walks.items c.halves.invariant.copies c.latest_up_to.ensures.on)
 
 pub halves-preserved : goal.halves-preserved
 halves-preserved c =
@@ -31,8 +32,8 @@ halves-preserved c =
     let went = c.latest_up_to.ensures in
     let new = c.latest_up_to.new.self in
     record {
-      same = went.set ∙ inv.same;
-      under_way = went.under_way;
+      same = went.on.set ∙ inv.same;
+      under_way = went.on.under_way;
       copies = c.keep.ensures;
       upto = omega (arith, went.moment, inv.upto);
       latest = found_so_far set c.halves.walk.machine.set p c.halves.walk.moment _ new.moment aim c.latest_up_to.result c.halves.latest c.or-latest.result

@@ -1,6 +1,5 @@
-use Rattle.std.proofs.Common.{sym, subst}
-use Rattle.raw_debug.specs.Walking.{AreOn}
+use Rattle.raw_debug.proofs.Copying.{led_then}
 use Rattle.raw_debug.proofs.copies.Copies.return_to.Goals as goal
 
-pub returns-clause-copies : goal.returns-clause-copies
-returns-clause-copies c = subst (λ g. AreOn g c.take_back.new.self.walks.items) (sym c.return_to.ensures.set) c.take_back.ensures.copies
+pub returns-clause-went : goal.returns-clause-went
+returns-clause-went c = led_then c.args.walk.now c.take_back.new.walk c.return_to.new.self c.take_back.new.self.walks.items c.take_back.ensures c.return_to.ensures.on

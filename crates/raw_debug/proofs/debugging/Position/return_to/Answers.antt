@@ -1,14 +1,8 @@
-use Rattle.std.proofs.Common.{◌<◌, sym, subst}
-use Rattle.raw_grid.specs.Topology.{proc_count}
-use Rattle.raw_model.specs.Program.{ProgramSet}
+use Rattle.std.proofs.Common.{refl}
+use Rattle.raw_debug.proofs.Following.{has_moved}
 use Rattle.raw_debug.proofs.debugging.Position.return_to.Goals as goal
 
-pub returns-clause-stands : goal.returns-clause-stands
-returns-clause-stands c =
+pub returns-clause-moved : goal.returns-clause-moved
+returns-clause-moved c =
     let old = c.args.self.now in
-    let same = c.return_to.ensures.set in
-    record {
-      under_way = c.return_to.ensures.under_way;
-      copies = c.return_to.ensures.copies;
-      there = subst (λ (g : ProgramSet). old.current.0 < proc_count g.topo) (sym same) c.requires.stands.there;
-    }
+    has_moved old (record old { walk = c.return_to.new.walk; copies = c.return_to.new.self }) refl c.return_to.ensures.went c.requires.stands

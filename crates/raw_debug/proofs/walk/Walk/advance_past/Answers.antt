@@ -1,10 +1,12 @@
 use Rattle.std.proofs.Common.{sym, subst, arith}
-use Rattle.raw_debug.specs.Debugging.{IsPossibleAim}
+use Rattle.raw_debug.specs.Debugging.{CanAim}
 use Rattle.raw_debug.proofs.Past.{goes_further, past_further, stays_then, still_seen}
 use Rattle.raw_debug.proofs.walk.Walk.advance_past.Goals as goal
 
-pub advance_by_one-requires-in-steps-clause-possible : goal.advance_by_one-requires-in-steps-clause-possible
-advance_by_one-requires-in-steps-clause-possible c = subst (λ g. IsPossibleAim g c.args.proc.0 c.args.aim) (sym c.steps.invariant.gone.set) c.requires.possible
+pub advance_by_one-requires-in-steps : goal.advance_by_one-requires-in-steps
+advance_by_one-requires-in-steps c =
+    let gone = c.steps.invariant.gone in
+    record { under_way = gone.under_way; can = subst (λ g. CanAim g c.args.proc.0 c.args.aim) (sym gone.set) c.requires.can }
 
 pub steps-smaller : goal.steps-smaller
 steps-smaller c = omega (arith, c.in-Some.ensures.gone.later, c.is_past.ensures.before c.steps-test.true)

@@ -1,17 +1,15 @@
 use Rattle.std.proofs.Common.{sym, subst}
-use Rattle.raw_debug.specs.Debugging.{IsPossibleAim}
+use Rattle.raw_debug.specs.Debugging.{CanAim}
 use Rattle.raw_debug.proofs.Past.{goes_then, ends_then, seen_then}
 use Rattle.raw_debug.proofs.walk.Walk.advance_to_sight.Goals as goal
 
 pub returns-in-Some-clause-seen : goal.returns-in-Some-clause-seen
-returns-in-Some-clause-seen c = c.in-Some.ensures.seen c.args.proc.0 c.args.aim c.requires.possible c.watched-watched.ensures
+returns-in-Some-clause-seen c = c.in-Some.ensures.seen c.args.proc.0 c.args.aim c.requires.can.possible c.watched-watched.ensures
 
-pub advance_past-requires-clause-under_way : goal.advance_past-requires-clause-under_way
-advance_past-requires-clause-under_way c = (c.run_alone.ensures.stays c.in_default.is).under_way
-
-pub advance_past-requires-clause-possible : goal.advance_past-requires-clause-possible
-advance_past-requires-clause-possible c =
-    subst (λ g. IsPossibleAim g c.args.proc.0 c.args.aim) (sym (c.run_alone.ensures.stays c.in_default.is).set) c.requires.possible
+pub advance_past-requires : goal.advance_past-requires
+advance_past-requires c =
+    let stays = c.run_alone.ensures.stays c.in_default.is in
+    record { under_way = stays.under_way; can = subst (λ g. CanAim g c.args.proc.0 c.args.aim) (sym stays.set) c.requires.can }
 
 pub returns-in_err-stepped-clause-rests : goal.returns-in_err-stepped-clause-rests
 returns-in_err-stepped-clause-rests c = λ e.

@@ -16,7 +16,6 @@ pub returns-then-not-advance_up_to : goal.returns-then-not-advance_up_to
 returns-then-not-advance_up_to c =
     let ended = c.advance_up_to.ensures.rests c.if-not-advance_up_to.true in
     record {
-      set = ended.set ∙ c.steps.invariant.same;
-      under_way = ended.under_way;
+      on = record { set = ended.set ∙ c.steps.invariant.same; under_way = ended.under_way };
       rests = λ e. ended.end ∙ ap (λ g. length (serial g)) c.steps.invariant.same;
     }

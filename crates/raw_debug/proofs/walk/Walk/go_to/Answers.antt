@@ -46,8 +46,7 @@ returns-then-not-advance_up_to c =
     let ended = c.advance_up_to.ensures.rests c.if-not-advance_up_to.true in
     let less : c.count-taken.result < c.args.place.steps = omega (arith, c.if-taken-steps.false) in
     record {
-      set = ended.set ∙ c.steps.invariant.same;
-      under_way = ended.under_way;
+      on = record { set = ended.set ∙ c.steps.invariant.same; under_way = ended.under_way };
       led = goes_nowhere c.args.self.now.machine.set c.set-set.ensures.valid c.args.place.proc.0 c.args.place.steps c.requires.there c.steps.self c.steps.invariant
           c.count-taken.result c.count-taken.ensures.value c.advance_up_to.new.self ended.set less ended;
     }

@@ -5,16 +5,10 @@ use Rattle.raw_debug.specs.Stops.{shows}
 use Rattle.raw_debug.proofs.Seen.{searches_on, stops_here, ends_here}
 use Rattle.raw_debug.proofs.walk.Walk.go_until.Goals as goal
 
-pub returns-in_default-clause-under_way : goal.returns-in_default-clause-under_way
-returns-in_default-clause-under_way c = (c.advance_to_sight.ensures.rests c.in_default.is).under_way
-
 pub returns-in_default-clause-led : goal.returns-in_default-clause-led
 returns-in_default-clause-led c =
     ends_here c.args.self.now.machine.set c.args.self.now.moment c.args.proc.0 c.args.aim c.steps.self c.advance_to_sight.new.self c.steps.invariant
     (c.advance_to_sight.ensures.rests c.in_default.is)
-
-pub returns-then-is_met-clause-under_way : goal.returns-then-is_met-clause-under_way
-returns-then-is_met-clause-under_way c = c.in-Some.ensures.gone.under_way
 
 pub returns-then-is_met-clause-led : goal.returns-then-is_met-clause-led
 returns-then-is_met-clause-led c =

@@ -15,7 +15,6 @@ returns-then-not-advance_up_to c =
     let ended = c.advance_up_to.ensures.rests c.if-not-advance_up_to.true in
     let long = ap (λ g. length (serial g)) c.steps.invariant.same in
     record {
-      set = ended.set ∙ c.steps.invariant.same;
-      under_way = ended.under_way;
+      on = record { set = ended.set ∙ c.steps.invariant.same; under_way = ended.under_way };
       moment = absurd (omega (arith, ended.moment, ended.end, long, c.requires.there, c.steps-test.true));
     }
