@@ -1,23 +1,75 @@
 //! The values of a row.
 use raw_flow::FlowOp;
-use raw_frame::Table;
+use raw_frame::{Numbered, OutId, Table, ValueId};
 use std::alloc::{AllocError, Global};
+
+/// A source of a stream by its number.
+#[derive(Clone, Copy, PartialEq, Eq)]
+pub struct SourceId(pub usize);
+
+impl Numbered for SourceId {
+    fn number(self) -> usize {
+        self.0
+    }
+}
+
+/// A sink of a stream by its number.
+#[derive(Clone, Copy, PartialEq, Eq)]
+pub struct SinkId(pub usize);
+
+impl Numbered for SinkId {
+    fn number(self) -> usize {
+        self.0
+    }
+}
+
+/// A value as it was some rows before.
+#[derive(Clone, Copy, PartialEq, Eq)]
+pub struct RowValue {
+    pub value: ValueId,
+    /// How many rows before it is meant.
+    pub back: usize,
+}
 
 /// What an operation is on.
 #[derive(Clone, Copy, PartialEq, Eq)]
 pub enum Operand {
     /// A word that is known.
     Word(u32),
-    /// The value with this number, as it was so many rows before.
-    Value { value: usize, back: usize },
+    Value(RowValue),
 }
 
 impl Operand {
-    /// The number of the value and how many rows before it is meant, where it is one.
-    pub fn value(self) -> Option<(usize, usize)> {
+    /// A value of the same row.
+    pub(crate) fn of_row(value: ValueId) -> Operand {
+        Operand::Value(RowValue { value, back: 0 })
+    }
+
+    /// The value, where it is one.
+    pub fn value(self) -> Option<RowValue> {
         match self {
             Operand::Word(_) => None,
-            Operand::Value { value, back } => Some((value, back)),
+            Operand::Value(value) => Some(value),
+        }
+    }
+}
+
+/// Which of the two operands of an operation.
+#[derive(Clone, Copy, PartialEq, Eq)]
+pub enum Position {
+    First,
+    Second,
+}
+
+impl Position {
+    /// Both, in their order.
+    pub const BOTH: [Position; 2] = [Position::First, Position::Second];
+
+    /// The place among both, from 0.
+    pub fn index(self) -> usize {
+        match self {
+            Position::First => 0,
+            Position::Second => 1,
         }
     }
 }
@@ -25,33 +77,33 @@ impl Operand {
 /// Where a value comes from.
 #[derive(Clone, Copy, PartialEq, Eq)]
 pub enum Origin {
-    /// It is the next word of the source of this number.
-    Input(usize),
+    /// It is the next word of the source.
+    Input(SourceId),
     Made { op: FlowOp, a: Operand, b: Operand },
 }
 
 impl Origin {
-    /// Its first operand, or with place 1 its second; an input has none.
-    pub fn operand(self, place: usize) -> Option<Operand> {
-        match self {
-            Origin::Input(_) => None,
-            Origin::Made { a, .. } if place == 0 => Some(a),
-            Origin::Made { b, .. } => Some(b),
+    /// One of its operands; an input has none.
+    pub fn operand(self, position: Position) -> Option<Operand> {
+        match (self, position) {
+            (Origin::Input(_), _) => None,
+            (Origin::Made { a, .. }, Position::First) => Some(a),
+            (Origin::Made { b, .. }, Position::Second) => Some(b),
         }
     }
 
-    /// The value that is its operand at a place, and how many rows before it is meant.
-    pub fn value(self, place: usize) -> Option<(usize, usize)> {
-        match self.operand(place) {
+    /// The value that is one of its operands.
+    pub fn value(self, position: Position) -> Option<RowValue> {
+        match self.operand(position) {
             Some(operand) => operand.value(),
             None => None,
         }
     }
 
     /// The source of which it is a word.
-    pub fn source(self) -> Option<usize> {
+    pub fn source(self) -> Option<SourceId> {
         match self {
-            Origin::Input(port) => Some(port),
+            Origin::Input(source) => Some(source),
             Origin::Made { .. } => None,
         }
     }
@@ -69,23 +121,23 @@ impl Origin {
 #[derive(Clone, Copy, PartialEq, Eq)]
 pub struct Use {
     /// The value that is made of it.
-    pub user: usize,
+    pub user: ValueId,
     /// How many rows before that it is meant.
     pub back: usize,
 }
 
-/// What goes to a sink: the sink's number and the value.
+/// A value that goes to a sink.
 #[derive(Clone, Copy, PartialEq, Eq)]
 pub struct RowOut {
-    pub port: usize,
-    pub value: usize,
+    pub sink: SinkId,
+    pub value: ValueId,
 }
 
 #[derive(Drop)]
 struct Value {
     origin: Origin,
     uses: Vec<Use>,
-    out: Option<usize>,
+    out: Option<OutId>,
     /// What it is taken for in rows below the first: the word of one row below, of two, and so on.
     firsts: Vec<u32>,
 }
@@ -94,10 +146,13 @@ struct Value {
 /// is made.
 #[derive(Drop)]
 pub struct Body {
-    rows: usize,
-    of_row: usize,
+    /// Of how many rows it is.
+    pub rows: usize,
+    /// How many values each row has. Those of the second row are numbered behind those of the first.
+    pub of_row: usize,
     values: Vec<Value>,
-    outs: Vec<RowOut>,
+    /// The outs, in their order.
+    pub outs: Vec<RowOut>,
 }
 
 impl Body {
@@ -128,19 +183,19 @@ impl Body {
     }
 
     /// Adds an out.
-    pub(crate) fn add_out(&mut self, port: usize, value: usize) -> Result<(), AllocError> {
-        let place = self.outs.len();
-        if let Some(value) = self.values.get_mut(value) {
+    pub(crate) fn add_out(&mut self, sink: SinkId, value: ValueId) -> Result<(), AllocError> {
+        let place = OutId(self.outs.len());
+        if let Some(value) = self.values.get_mut(value.0) {
             value.out = Some(place);
         }
-        self.outs.push(RowOut { port, value })?;
+        self.outs.push(RowOut { sink, value })?;
         Ok(())
     }
 
     // A value uses another.
-    fn add_use(&mut self, operand: Option<(usize, usize)>, user: usize) -> Result<(), AllocError> {
-        if let Some((value, back)) = operand {
-            if let Some(value) = self.values.get_mut(value) {
+    fn add_use(&mut self, operand: Option<RowValue>, user: ValueId) -> Result<(), AllocError> {
+        if let Some(RowValue { value, back }) = operand {
+            if let Some(value) = self.values.get_mut(value.0) {
                 value.uses.push(Use { user, back })?;
             }
         }
@@ -149,22 +204,12 @@ impl Body {
 
     /// All values with their users.
     pub(crate) fn link(&mut self) -> Result<(), AllocError> {
-        for user in 0..self.values.len() {
+        for user in (0..self.values.len()).map(ValueId) {
             let origin = self.origin(user);
-            self.add_use(origin.value(0), user)?;
-            self.add_use(origin.value(1), user)?;
+            self.add_use(origin.value(Position::First), user)?;
+            self.add_use(origin.value(Position::Second), user)?;
         }
         Ok(())
-    }
-
-    /// Of how many rows it is.
-    pub fn rows(&self) -> usize {
-        self.rows
-    }
-
-    /// How many values each row has. Those of the second row are numbered behind those of the first.
-    pub fn of_row(&self) -> usize {
-        self.of_row
     }
 
     /// How many values there are.
@@ -173,51 +218,46 @@ impl Body {
     }
 
     /// Which of the rows a value is of.
-    pub fn row_of(&self, value: usize) -> usize {
-        value.checked_div(self.of_row).unwrap_or(0)
+    pub fn row_of(&self, value: ValueId) -> usize {
+        value.0.checked_div(self.of_row).unwrap_or(0)
     }
 
     /// Where a value comes from.
-    pub fn origin(&self, value: usize) -> Origin {
-        match self.values.get(value) {
+    pub fn origin(&self, value: ValueId) -> Origin {
+        match self.values.get(value.0) {
             Some(value) => value.origin,
-            None => Origin::Input(0),
+            None => Origin::Input(SourceId(0)),
         }
     }
 
     /// Where a value is used, an operation on it twice.
-    pub fn uses(&self, value: usize) -> &[Use] {
-        match self.values.get(value) {
+    pub fn uses(&self, value: ValueId) -> &[Use] {
+        match self.values.get(value.0) {
             Some(value) => value.uses.as_slice(),
             None => &[],
         }
     }
 
     /// Which of the outs a value is.
-    pub fn out_of(&self, value: usize) -> Option<usize> {
-        match self.values.get(value) {
+    pub fn out_of(&self, value: ValueId) -> Option<OutId> {
+        match self.values.get(value.0) {
             Some(value) => value.out,
             None => None,
         }
     }
 
-    /// The number of the sink to which a value goes.
-    pub fn sink_of(&self, value: usize) -> Option<usize> {
+    /// The sink to which a value goes.
+    pub fn sink_of(&self, value: ValueId) -> Option<SinkId> {
         let out = self.out_of(value)?;
-        match self.outs.get(out) {
-            Some(out) => Some(out.port),
+        match self.outs.get(out.0) {
+            Some(out) => Some(out.sink),
             None => None,
         }
     }
 
-    /// The outs, in their order.
-    pub fn outs(&self) -> &[RowOut] {
-        self.outs.as_slice()
-    }
-
     /// The words that a value is taken for in rows below the first.
-    pub(crate) fn firsts(&self, value: usize) -> &[u32] {
-        match self.values.get(value) {
+    pub(crate) fn firsts(&self, value: ValueId) -> &[u32] {
+        match self.values.get(value.0) {
             Some(value) => value.firsts.as_slice(),
             None => &[],
         }
@@ -225,18 +265,18 @@ impl Body {
 
     /// What a value is taken for where the rows of the body are so many times before the first, if any of its users
     /// looks there.
-    pub fn first_word(&self, value: usize, times: usize) -> Option<u32> {
+    pub fn first_word(&self, value: ValueId, times: usize) -> Option<u32> {
         let below = times.saturating_mul(self.rows);
         let below = below.checked_sub(self.row_of(value))?;
         let place = below.checked_sub(1)?;
-        let value = value.checked_rem(self.of_row)?;
-        self.firsts(value).get(place).copied()
+        let value = value.0.checked_rem(self.of_row)?;
+        self.firsts(ValueId(value)).get(place).copied()
     }
 
     /// How many values are made, and not put in.
     pub fn made_count(&self) -> usize {
         let mut count: usize = 0;
-        for value in 0..self.count() {
+        for value in (0..self.count()).map(ValueId) {
             if !self.origin(value).is_input() {
                 count = count.saturating_add(1);
             }
@@ -256,21 +296,25 @@ impl Body {
     }
 
     /// How many words each of so many sources gives.
-    pub fn given(&self, alloc: Global, sources: usize) -> Result<Table<usize>, AllocError> {
+    pub fn given(
+        &self,
+        alloc: Global,
+        sources: usize,
+    ) -> Result<Table<SourceId, usize>, AllocError> {
         let mut given = Table::new(alloc, sources, 0_usize)?;
         for value in &self.values {
-            if let Some(port) = value.origin.source() {
-                given.put(port, given.at(port).saturating_add(1));
+            if let Some(source) = value.origin.source() {
+                given.put(source, given.at(source).saturating_add(1));
             }
         }
         Ok(given)
     }
 
     /// How many words each of so many sinks gets.
-    pub fn gotten(&self, alloc: Global, sinks: usize) -> Result<Table<usize>, AllocError> {
+    pub fn gotten(&self, alloc: Global, sinks: usize) -> Result<Table<SinkId, usize>, AllocError> {
         let mut gotten = Table::new(alloc, sinks, 0_usize)?;
         for out in &self.outs {
-            gotten.put(out.port, gotten.at(out.port).saturating_add(1));
+            gotten.put(out.sink, gotten.at(out.sink).saturating_add(1));
         }
         Ok(gotten)
     }

@@ -1,8 +1,8 @@
 //! The body of a stream.
-use crate::body::{Body, Operand, Origin};
+use crate::body::{Body, Operand, Origin, Position, RowValue, SinkId, SourceId};
 use crate::folding::{Earlier, Folded, fold};
 use raw_flow::{FlowOp, Node};
-use raw_frame::Table;
+use raw_frame::{Table, ValueId};
 use raw_stream::{StreamFlow, StreamOut};
 use raw_term::TermRefusal;
 use std::alloc::{AllocError, Global};
@@ -11,13 +11,14 @@ use std::alloc::{AllocError, Global};
 #[derive(Drop)]
 struct Building<'a> {
     folded: &'a Folded,
-    needed: Table<bool>,
-    /// The number of the value of each term that has one.
-    numbers: Table<Option<usize>>,
-    origins: Table<Origin>,
+    /// By the numbers of the terms.
+    needed: Table<usize, bool>,
+    /// The value of each term that has one.
+    values: Table<usize, Option<ValueId>>,
+    origins: Table<ValueId, Origin>,
     firsts: Vec<Vec<u32>>,
     /// For each value another one that is the same but below the first row.
-    twins: Table<Option<usize>>,
+    twins: Table<ValueId, Option<ValueId>>,
     /// Terms whose operands are still to be looked at.
     stack: Vec<u32>,
 }
@@ -73,9 +74,9 @@ fn are_all(words: &[u32], word: u32) -> bool {
 }
 
 // Adds how often each value is an out.
-fn count_outs(counts: &mut Table<usize>, operands: &[Operand]) {
+fn count_outs(counts: &mut Table<ValueId, usize>, operands: &[Operand]) {
     for operand in operands {
-        if let Some((value, _)) = operand.value() {
+        if let Some(RowValue { value, .. }) = operand.value() {
             counts.put(value, counts.at(value).saturating_add(1));
         }
     }
@@ -87,21 +88,21 @@ impl<'a> Building<'a> {
         Ok(Building {
             folded,
             needed: Table::new(alloc, count, false)?,
-            numbers: Table::new(alloc, count, None)?,
-            origins: Table::new(alloc, 0, Origin::Input(0))?,
+            values: Table::new(alloc, count, None)?,
+            origins: Table::new(alloc, 0, Origin::Input(SourceId(0)))?,
             firsts: Vec::new(alloc),
             twins: Table::new(alloc, 0, None)?,
             stack: Vec::new(alloc),
         })
     }
 
-    // Adds a value, and gives its number.
-    fn add(&mut self, alloc: Global, origin: Origin) -> Result<usize, AllocError> {
-        let number = self.origins.size();
+    // Adds a value.
+    fn add(&mut self, alloc: Global, origin: Origin) -> Result<ValueId, AllocError> {
+        let value = ValueId(self.origins.size());
         self.origins.push(origin)?;
         self.firsts.push(Vec::new(alloc))?;
         self.twins.push(None)?;
-        Ok(number)
+        Ok(value)
     }
 
     // A term is needed.
@@ -155,40 +156,40 @@ impl<'a> Building<'a> {
         }
     }
 
-    // Each term that has a value gets its number.
+    // Each term that has a value gets it.
     fn number_all(&mut self, alloc: Global) -> Result<(), AllocError> {
         for term in 0..self.folded.table.len() {
             if self.has_value(term) {
-                let port = self.folded.source(term).unwrap_or(0);
-                let number = self.add(alloc, Origin::Input(port))?;
-                self.numbers.put(term as usize, Some(number));
+                let source = self.folded.source(term).unwrap_or(SourceId(0));
+                let value = self.add(alloc, Origin::Input(source))?;
+                self.values.put(term as usize, Some(value));
             }
         }
         Ok(())
     }
 
-    // The number of the value of a term; a word gets one here.
-    fn number(&mut self, alloc: Global, term: u32) -> Result<usize, AllocError> {
-        if let Some(number) = self.numbers.at(term as usize) {
-            return Ok(number);
+    // The value of a term; a word gets one here.
+    fn value(&mut self, alloc: Global, term: u32) -> Result<ValueId, AllocError> {
+        if let Some(value) = self.values.at(term as usize) {
+            return Ok(value);
         }
         let word = self.folded.table.word(term).unwrap_or(0);
-        let number = self.add(alloc, same_as(Operand::Word(word)))?;
-        self.numbers.put(term as usize, Some(number));
-        Ok(number)
+        let value = self.add(alloc, same_as(Operand::Word(word)))?;
+        self.values.put(term as usize, Some(value));
+        Ok(value)
     }
 
     // The words that a value is taken for below the first row.
-    fn firsts_of(&self, value: usize) -> &[u32] {
-        match self.firsts.get(value) {
+    fn firsts_of(&self, value: ValueId) -> &[u32] {
+        match self.firsts.get(value.0) {
             Some(firsts) => firsts.as_slice(),
             None => &[],
         }
     }
 
     // From now on a value is taken for these words, where it was for some of them before.
-    fn take_for(&mut self, value: usize, words: Vec<u32>) {
-        if let Some(firsts) = self.firsts.get_mut(value) {
+    fn take_for(&mut self, value: ValueId, words: Vec<u32>) {
+        if let Some(firsts) = self.firsts.get_mut(value.0) {
             if firsts.len() < words.len() {
                 *firsts = words;
             }
@@ -196,11 +197,11 @@ impl<'a> Building<'a> {
     }
 
     // The other value that is the same as a value in each row.
-    fn twin(&mut self, alloc: Global, value: usize, at: usize) -> Result<usize, AllocError> {
+    fn twin(&mut self, alloc: Global, value: ValueId, at: ValueId) -> Result<ValueId, AllocError> {
         if let Some(twin) = self.twins.at(at) {
             return Ok(twin);
         }
-        let twin = self.add(alloc, same_as(Operand::Value { value, back: 0 }))?;
+        let twin = self.add(alloc, same_as(Operand::of_row(value)))?;
         self.twins.put(at, Some(twin));
         Ok(twin)
     }
@@ -209,9 +210,9 @@ impl<'a> Building<'a> {
     fn with_firsts(
         &mut self,
         alloc: Global,
-        value: usize,
+        value: ValueId,
         words: Vec<u32>,
-    ) -> Result<usize, AllocError> {
+    ) -> Result<ValueId, AllocError> {
         let mut at = value;
         for _ in 0..self.origins.size() {
             if agree(self.firsts_of(at), &words) {
@@ -231,14 +232,14 @@ impl<'a> Building<'a> {
                 return Ok(Operand::Word(word));
             }
         }
-        let value = self.number(alloc, term)?;
+        let value = self.value(alloc, term)?;
         let back = words.len();
         if back == 0 {
-            return Ok(Operand::Value { value, back });
+            return Ok(Operand::of_row(value));
         }
         let words = reversed(alloc, &words)?;
         let value = self.with_firsts(alloc, value, words)?;
-        Ok(Operand::Value { value, back })
+        Ok(Operand::Value(RowValue { value, back }))
     }
 
     // A term as an operand.
@@ -249,10 +250,10 @@ impl<'a> Building<'a> {
 
     // A value that is itself some rows before.
     fn define_root(&mut self, alloc: Global, term: u32) -> Result<(), AllocError> {
-        if let Some(number) = self.numbers.at(term as usize) {
+        if let Some(value) = self.values.at(term as usize) {
             let earlier = self.folded.around(alloc, term)?;
             let operand = self.operand_of(alloc, earlier)?;
-            self.origins.put(number, same_as(operand));
+            self.origins.put(value, same_as(operand));
         }
         Ok(())
     }
@@ -263,9 +264,9 @@ impl<'a> Building<'a> {
             return self.define_root(alloc, term);
         }
         if let Some(Node::Apply { op, a, b }) = self.folded.table.node(term) {
-            if let Some(number) = self.numbers.at(term as usize) {
+            if let Some(value) = self.values.at(term as usize) {
                 let (a, b) = (self.operand(alloc, a)?, self.operand(alloc, b)?);
-                self.origins.put(number, made(op, a, b));
+                self.origins.put(value, made(op, a, b));
             }
         }
         Ok(())
@@ -280,11 +281,11 @@ impl<'a> Building<'a> {
     }
 
     // How often each value is used by others.
-    fn use_counts(&self, alloc: Global) -> Result<Table<usize>, AllocError> {
+    fn use_counts(&self, alloc: Global) -> Result<Table<ValueId, usize>, AllocError> {
         let mut counts = Table::new(alloc, self.origins.size(), 0_usize)?;
-        for user in 0..self.origins.size() {
-            for place in 0..2 {
-                if let Some((value, _)) = self.origins.at(user).value(place) {
+        for user in (0..self.origins.size()).map(ValueId) {
+            for position in Position::BOTH {
+                if let Some(RowValue { value, .. }) = self.origins.at(user).value(position) {
                     counts.put(value, counts.at(value).saturating_add(1));
                 }
             }
@@ -293,8 +294,8 @@ impl<'a> Building<'a> {
     }
 
     // The value that an out can be itself: one that is made, and that only this out needs.
-    fn free_value(&self, operand: Operand, counts: &Table<usize>) -> Option<usize> {
-        let (value, back) = operand.value()?;
+    fn free_value(&self, operand: Operand, counts: &Table<ValueId, usize>) -> Option<ValueId> {
+        let RowValue { value, back } = operand.value()?;
         if back == 0 && counts.at(value) == 1 && !self.origins.at(value).is_input() {
             Some(value)
         } else {
@@ -307,8 +308,8 @@ impl<'a> Building<'a> {
         &mut self,
         alloc: Global,
         operand: Operand,
-        counts: &Table<usize>,
-    ) -> Result<usize, AllocError> {
+        counts: &Table<ValueId, usize>,
+    ) -> Result<ValueId, AllocError> {
         match self.free_value(operand, counts) {
             Some(value) => Ok(value),
             None => self.add(alloc, same_as(operand)),
@@ -316,10 +317,14 @@ impl<'a> Building<'a> {
     }
 
     // Each input that nobody uses is taken by an operation.
-    fn take_inputs(&mut self, alloc: Global, counts: &Table<usize>) -> Result<(), AllocError> {
-        for value in 0..counts.size() {
+    fn take_inputs(
+        &mut self,
+        alloc: Global,
+        counts: &Table<ValueId, usize>,
+    ) -> Result<(), AllocError> {
+        for value in (0..counts.size()).map(ValueId) {
             if self.origins.at(value).is_input() && counts.at(value) == 0 {
-                self.add(alloc, same_as(Operand::Value { value, back: 0 }))?;
+                self.add(alloc, same_as(Operand::of_row(value)))?;
             }
         }
         Ok(())
@@ -343,7 +348,7 @@ impl<'a> Building<'a> {
         &mut self,
         alloc: Global,
         operands: &[Operand],
-    ) -> Result<Vec<usize>, AllocError> {
+    ) -> Result<Vec<ValueId>, AllocError> {
         let mut counts = self.use_counts(alloc)?;
         count_outs(&mut counts, operands);
         let mut values = Vec::new(alloc);
@@ -359,17 +364,17 @@ impl<'a> Building<'a> {
         self,
         alloc: Global,
         outs: &[StreamOut],
-        values: &[usize],
+        values: &[ValueId],
     ) -> Result<Body, AllocError> {
         let count = self.origins.size();
         let mut body = Body::new(alloc, 1, count);
-        for value in 0..count {
+        for value in (0..count).map(ValueId) {
             let firsts = self.firsts_of(value).to_vec(alloc)?;
             body.add(alloc, self.origins.at(value), firsts)?;
         }
         body.link()?;
         for (out, value) in outs.iter().zip(values) {
-            body.add_out(out.port as usize, *value)?;
+            body.add_out(SinkId(out.port as usize), *value)?;
         }
         Ok(body)
     }

@@ -1,30 +1,40 @@
 //! Values that need one another: those on a circle through earlier rows.
-use crate::body::Body;
-use raw_frame::Table;
+use crate::body::{Body, Position};
+use raw_frame::{Numbered, Table, ValueId};
 use std::alloc::{AllocError, Global};
+
+/// A group of values by its number.
+#[derive(Clone, Copy, PartialEq, Eq, PartialOrd, Ord)]
+pub struct GroupId(pub usize);
+
+impl Numbered for GroupId {
+    fn number(self) -> usize {
+        self.0
+    }
+}
 
 /// The values of a body in groups: two are in one group where each needs the other. A group that needs another has a
 /// higher number.
 #[derive(Drop)]
 pub struct Components {
-    of: Table<usize>,
-    members: Vec<Vec<usize>>,
+    of: Table<ValueId, Option<GroupId>>,
+    members: Vec<Vec<ValueId>>,
 }
 
 /// A walk along uses, and back along operands.
 #[derive(Drop)]
 struct Walk<'a> {
     body: &'a Body,
-    seen: Table<bool>,
+    seen: Table<ValueId, bool>,
     /// Values, each with how many of its uses have been looked at.
-    stack: Vec<(usize, usize)>,
+    stack: Vec<(ValueId, usize)>,
     /// Values in the order in which all behind them had been seen.
-    done: Vec<usize>,
+    done: Vec<ValueId>,
 }
 
 impl Walk<'_> {
     // The next user of a value from a place of its uses on.
-    fn user_at(&self, value: usize, place: usize) -> Option<usize> {
+    fn user_at(&self, value: ValueId, place: usize) -> Option<ValueId> {
         match self.body.uses(value).get(place) {
             Some(used) => Some(used.user),
             None => None,
@@ -32,7 +42,7 @@ impl Walk<'_> {
     }
 
     // Begins with a value, if it has not been seen.
-    fn enter(&mut self, value: usize) -> Result<(), AllocError> {
+    fn enter(&mut self, value: ValueId) -> Result<(), AllocError> {
         if !self.seen.at(value) {
             self.seen.put(value, true);
             self.stack.push((value, 0))?;
@@ -41,7 +51,7 @@ impl Walk<'_> {
     }
 
     // One step.
-    fn step(&mut self, value: usize, place: usize) -> Result<(), AllocError> {
+    fn step(&mut self, value: ValueId, place: usize) -> Result<(), AllocError> {
         match self.user_at(value, place) {
             Some(user) => {
                 self.stack.push((value, place.saturating_add(1)))?;
@@ -55,7 +65,7 @@ impl Walk<'_> {
     }
 
     // All that is behind a value.
-    fn walk_from(&mut self, value: usize) -> Result<(), AllocError> {
+    fn walk_from(&mut self, value: ValueId) -> Result<(), AllocError> {
         self.enter(value)?;
         for _ in 0..usize::MAX {
             let Some((value, place)) = self.stack.pop() else {
@@ -68,14 +78,14 @@ impl Walk<'_> {
 }
 
 // The values of a body, each before all that it is needed for, but on circles.
-fn walked(alloc: Global, body: &Body) -> Result<Vec<usize>, AllocError> {
+fn walked(alloc: Global, body: &Body) -> Result<Vec<ValueId>, AllocError> {
     let mut walk = Walk {
         body,
         seen: Table::new(alloc, body.count(), false)?,
         stack: Vec::new(alloc),
         done: Vec::new(alloc),
     };
-    for value in 0..body.count() {
+    for value in (0..body.count()).map(ValueId) {
         walk.walk_from(value)?;
     }
     Ok(walk.done)
@@ -85,12 +95,12 @@ impl Components {
     // A value is in a group, if it is in none yet.
     fn enter(
         &mut self,
-        value: usize,
-        group: usize,
-        stack: &mut Vec<usize>,
+        value: ValueId,
+        group: GroupId,
+        stack: &mut Vec<ValueId>,
     ) -> Result<(), AllocError> {
-        if self.of.at(value) == usize::MAX {
-            self.of.put(value, group);
+        if self.of.at(value).is_none() {
+            self.of.put(value, Some(group));
             stack.push(value)?;
         }
         Ok(())
@@ -100,21 +110,21 @@ impl Components {
     fn enter_operands(
         &mut self,
         body: &Body,
-        value: usize,
-        group: usize,
-        stack: &mut Vec<usize>,
+        value: ValueId,
+        group: GroupId,
+        stack: &mut Vec<ValueId>,
     ) -> Result<(), AllocError> {
-        for place in 0..2 {
-            if let Some((operand, _)) = body.origin(value).value(place) {
-                self.enter(operand, group, stack)?;
+        for position in Position::BOTH {
+            if let Some(operand) = body.origin(value).value(position) {
+                self.enter(operand.value, group, stack)?;
             }
         }
         Ok(())
     }
 
     // The group of a value, if it is in none yet.
-    fn gather(&mut self, alloc: Global, body: &Body, value: usize) -> Result<(), AllocError> {
-        let group = self.members.len();
+    fn gather(&mut self, alloc: Global, body: &Body, value: ValueId) -> Result<(), AllocError> {
+        let group = GroupId(self.members.len());
         let mut stack = Vec::new(alloc);
         let mut members = Vec::new(alloc);
         self.enter(value, group, &mut stack)?;
@@ -136,7 +146,7 @@ impl Components {
     pub fn of(alloc: Global, body: &Body) -> Result<Components, AllocError> {
         let order = walked(alloc, body)?;
         let mut components = Components {
-            of: Table::new(alloc, body.count(), usize::MAX)?,
+            of: Table::new(alloc, body.count(), None)?,
             members: Vec::new(alloc),
         };
         for value in order.iter().rev() {
@@ -150,21 +160,24 @@ impl Components {
         self.members.len()
     }
 
-    /// The group of a value.
-    pub fn group(&self, value: usize) -> usize {
-        self.of.at(value)
+    /// The group of a value; one behind all others of what is no value of the body.
+    pub fn group(&self, value: ValueId) -> GroupId {
+        match self.of.at(value) {
+            Some(group) => group,
+            None => GroupId(self.members.len()),
+        }
     }
 
     /// The values of a group, by rising numbers.
-    pub fn members(&self, group: usize) -> &[usize] {
-        match self.members.get(group) {
+    pub fn members(&self, group: GroupId) -> &[ValueId] {
+        match self.members.get(group.0) {
             Some(members) => members.as_slice(),
             None => &[],
         }
     }
 
     /// Whether a value needs others that need it.
-    pub fn is_on_circle(&self, value: usize) -> bool {
-        self.members(self.of.at(value)).len() > 1
+    pub fn is_on_circle(&self, value: ValueId) -> bool {
+        self.members(self.group(value)).len() > 1
     }
 }

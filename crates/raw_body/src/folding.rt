@@ -1,5 +1,6 @@
 //! What the nodes of a row mean: terms in their normal form, where inputs and what is kept from the row before are
 //! unknown.
+use crate::body::SourceId;
 use raw_flow::Node;
 use raw_frame::Table;
 use raw_stream::{RowNode, StreamFlow};
@@ -9,8 +10,8 @@ use std::alloc::{AllocError, Global};
 /// What an unknown term stands for.
 #[derive(Clone, Copy, PartialEq, Eq)]
 pub(crate) enum Unknown {
-    /// The next word of the source of this number.
-    Source(usize),
+    /// The next word of the source.
+    Source(SourceId),
     /// In the first row this word, and in each later one the value of a node in the row before.
     Before { node: usize, word: u32 },
 }
@@ -19,11 +20,12 @@ pub(crate) enum Unknown {
 #[derive(Drop)]
 pub(crate) struct Folded {
     pub(crate) table: TermTable,
-    unknowns: Table<Unknown>,
-    terms: Table<u32>,
+    unknowns: Table<usize, Unknown>,
+    /// By the numbers of the nodes.
+    terms: Table<usize, u32>,
     /// Whether each term is one of those that are themselves some rows before, with nothing else between: of each circle
     /// of them the one with the least number.
-    roots: Table<bool>,
+    roots: Table<usize, bool>,
 }
 
 /// A term as it was some rows before: `words` are what it is taken for in the rows below the first, the earliest first,
@@ -37,7 +39,7 @@ pub(crate) struct Earlier {
 // What a node stands for where it is unknown.
 fn unknown_of(node: RowNode) -> Option<Unknown> {
     match node {
-        RowNode::Input { port } => Some(Unknown::Source(port as usize)),
+        RowNode::Input { port } => Some(Unknown::Source(SourceId(port as usize))),
         RowNode::Pre { a, word } => Some(Unknown::Before {
             node: a as usize,
             word,
@@ -93,7 +95,9 @@ impl Folded {
                 let (a, b) = (self.terms.at(a as usize), self.terms.at(b as usize));
                 self.table.make(op, a, b)
             }
-            RowNode::Input { port } => Ok(self.unknown_term(Unknown::Source(port as usize))?),
+            RowNode::Input { port } => {
+                Ok(self.unknown_term(Unknown::Source(SourceId(port as usize)))?)
+            }
             RowNode::Pre { a, word } => {
                 let node = a as usize;
                 Ok(self.unknown_term(Unknown::Before { node, word })?)
@@ -107,13 +111,13 @@ impl Folded {
     }
 
     /// The source of which a term is a word.
-    pub(crate) fn source(&self, term: u32) -> Option<usize> {
+    pub(crate) fn source(&self, term: u32) -> Option<SourceId> {
         let place = (term as usize).checked_sub(1)?;
         if place >= self.unknowns.size() {
             return None;
         }
         match self.unknowns.at(place) {
-            Unknown::Source(port) => Some(port),
+            Unknown::Source(source) => Some(source),
             Unknown::Before { .. } => None,
         }
     }
@@ -210,7 +214,7 @@ impl Folded {
 pub(crate) fn fold(alloc: Global, stream: &StreamFlow) -> Result<Folded, TermRefusal> {
     let mut folded = Folded {
         table: TermTable::open(alloc, unknown_count(stream))?,
-        unknowns: Table::new(alloc, 0, Unknown::Source(0))?,
+        unknowns: Table::new(alloc, 0, Unknown::Source(SourceId(0)))?,
         terms: Table::new(alloc, 0, 0)?,
         roots: Table::new(alloc, 0, false)?,
     };

@@ -12,8 +12,8 @@ mod order;
 mod site;
 mod widening;
 
-pub use body::{Body, Operand, Origin, RowOut, Use};
+pub use body::{Body, Operand, Origin, Position, RowOut, RowValue, SinkId, SourceId, Use};
 pub use building::body_of;
-pub use components::Components;
+pub use components::{Components, GroupId};
 pub use order::Order;
 pub use site::Site;

@@ -1,19 +1,19 @@
 //! Orders of the values of a body.
-use crate::body::Body;
-use raw_frame::Table;
+use crate::body::{Body, Position, RowValue};
+use raw_frame::{Table, ValueId};
 use std::alloc::{AllocError, Global};
 
 /// What comes before what.
 #[derive(Drop)]
 pub struct Order {
-    heights: Table<usize>,
-    turns: Table<usize>,
+    heights: Table<ValueId, usize>,
+    turns: Table<ValueId, Option<usize>>,
 }
 
 // How many values of the same row each is needed by, one behind the other, at most.
-fn heights(alloc: Global, body: &Body) -> Result<Table<usize>, AllocError> {
+fn heights(alloc: Global, body: &Body) -> Result<Table<ValueId, usize>, AllocError> {
     let mut heights = Table::new(alloc, body.count(), 0_usize)?;
-    for value in (0..body.count()).rev() {
+    for value in (0..body.count()).rev().map(ValueId) {
         let mut height = 0;
         for used in body.uses(value) {
             if used.back == 0 {
@@ -26,13 +26,13 @@ fn heights(alloc: Global, body: &Body) -> Result<Table<usize>, AllocError> {
 }
 
 // How many values of the same row each needs, one behind the other, at most.
-fn depths(alloc: Global, body: &Body) -> Result<Table<usize>, AllocError> {
+fn depths(alloc: Global, body: &Body) -> Result<Table<ValueId, usize>, AllocError> {
     let mut depths = Table::new(alloc, body.count(), 0_usize)?;
-    for value in 0..body.count() {
+    for value in (0..body.count()).map(ValueId) {
         let mut depth = 0;
-        for place in 0..2 {
-            if let Some((operand, 0)) = body.origin(value).value(place) {
-                depth = depths.at(operand).saturating_add(1).max(depth);
+        for position in Position::BOTH {
+            if let Some(RowValue { value, back: 0 }) = body.origin(value).value(position) {
+                depth = depths.at(value).saturating_add(1).max(depth);
             }
         }
         depths.put(value, depth);
@@ -44,37 +44,37 @@ fn depths(alloc: Global, body: &Body) -> Result<Table<usize>, AllocError> {
 #[derive(Drop)]
 struct Visit<'a> {
     body: &'a Body,
-    depths: Table<usize>,
-    turns: Table<usize>,
+    depths: Table<ValueId, usize>,
+    turns: Table<ValueId, Option<usize>>,
     next: usize,
     /// What is to be visited, and whether that is for the second time.
-    stack: Vec<(usize, bool)>,
+    stack: Vec<(ValueId, bool)>,
 }
 
 impl Visit<'_> {
     // Whether a value has had its turn.
-    fn is_done(&self, value: usize) -> bool {
-        self.turns.at(value) != usize::MAX
+    fn is_done(&self, value: ValueId) -> bool {
+        self.turns.at(value).is_some()
     }
 
     // The next turn is that of a value.
-    fn finish(&mut self, value: usize) {
+    fn finish(&mut self, value: ValueId) {
         if !self.is_done(value) {
-            self.turns.put(value, self.next);
+            self.turns.put(value, Some(self.next));
             self.next = self.next.saturating_add(1);
         }
     }
 
     // An operand of a value in the same row that has had no turn.
-    fn operand(&self, value: usize, place: usize) -> Option<usize> {
-        match self.body.origin(value).value(place) {
-            Some((operand, 0)) if !self.is_done(operand) => Some(operand),
+    fn operand(&self, value: ValueId, position: Position) -> Option<ValueId> {
+        match self.body.origin(value).value(position) {
+            Some(RowValue { value, back: 0 }) if !self.is_done(value) => Some(value),
             _ => None,
         }
     }
 
     // Visits an operand next.
-    fn push(&mut self, operand: Option<usize>) -> Result<(), AllocError> {
+    fn push(&mut self, operand: Option<ValueId>) -> Result<(), AllocError> {
         if let Some(operand) = operand {
             self.stack.push((operand, false))?;
         }
@@ -82,7 +82,7 @@ impl Visit<'_> {
     }
 
     // How deep an operand is.
-    fn depth(&self, operand: Option<usize>) -> usize {
+    fn depth(&self, operand: Option<ValueId>) -> usize {
         match operand {
             Some(operand) => self.depths.at(operand),
             None => 0,
@@ -90,8 +90,9 @@ impl Visit<'_> {
     }
 
     // The operands of a value, the deeper one first.
-    fn push_operands(&mut self, value: usize) -> Result<(), AllocError> {
-        let (first, second) = (self.operand(value, 0), self.operand(value, 1));
+    fn push_operands(&mut self, value: ValueId) -> Result<(), AllocError> {
+        let first = self.operand(value, Position::First);
+        let second = self.operand(value, Position::Second);
         if self.depth(first) > self.depth(second) {
             self.push(second)?;
             self.push(first)
@@ -102,7 +103,7 @@ impl Visit<'_> {
     }
 
     // A value for the first time, or behind its operands.
-    fn visit(&mut self, value: usize, again: bool) -> Result<(), AllocError> {
+    fn visit(&mut self, value: ValueId, again: bool) -> Result<(), AllocError> {
         if again {
             self.finish(value);
             return Ok(());
@@ -115,7 +116,7 @@ impl Visit<'_> {
     }
 
     // All that an out needs.
-    fn visit_out(&mut self, out: usize) -> Result<(), AllocError> {
+    fn visit_out(&mut self, out: ValueId) -> Result<(), AllocError> {
         self.stack.push((out, false))?;
         for _ in 0..usize::MAX {
             let Some((value, again)) = self.stack.pop() else {
@@ -128,18 +129,18 @@ impl Visit<'_> {
 }
 
 // The turns of values, as the outs need them; then those of all others.
-fn turns(alloc: Global, body: &Body) -> Result<Table<usize>, AllocError> {
+fn turns(alloc: Global, body: &Body) -> Result<Table<ValueId, Option<usize>>, AllocError> {
     let mut visit = Visit {
         body,
         depths: depths(alloc, body)?,
-        turns: Table::new(alloc, body.count(), usize::MAX)?,
+        turns: Table::new(alloc, body.count(), None)?,
         next: 0,
         stack: Vec::new(alloc),
     };
-    for out in body.outs() {
+    for out in &body.outs {
         visit.visit_out(out.value)?;
     }
-    for value in 0..body.count() {
+    for value in (0..body.count()).map(ValueId) {
         visit.finish(value);
     }
     Ok(visit.turns)
@@ -155,12 +156,12 @@ impl Order {
     }
 
     /// How many values of the same row need a value, one behind the other, at most.
-    pub fn height(&self, value: usize) -> usize {
+    pub fn height(&self, value: ValueId) -> usize {
         self.heights.at(value)
     }
 
     /// The turn of a value where one out is made after the other, each with the deepest of its operands first.
-    pub fn turn(&self, value: usize) -> usize {
-        self.turns.at(value)
+    pub fn turn(&self, value: ValueId) -> usize {
+        self.turns.at(value).unwrap_or(usize::MAX)
     }
 }

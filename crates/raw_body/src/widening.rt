@@ -1,5 +1,6 @@
 //! Bodies of several rows.
-use crate::body::{Body, Operand, Origin};
+use crate::body::{Body, Operand, Origin, RowValue};
+use raw_frame::ValueId;
 use std::alloc::{AllocError, Global};
 
 /// Which of some rows is meant by a use in one of them, and how many times all the rows before.
@@ -27,21 +28,22 @@ fn row_meant(rows: usize, row: usize, back: usize) -> Meant {
 }
 
 impl Body {
-    // The number of the value of a row.
-    fn in_row(&self, value: usize, row: usize) -> usize {
-        value.saturating_add(row.saturating_mul(self.of_row()))
+    // A value as that of a row.
+    fn in_row(&self, value: ValueId, row: usize) -> ValueId {
+        let before = row.saturating_mul(self.of_row);
+        ValueId(before.saturating_add(value.0))
     }
 
     // An operand of a row of so many.
     fn operand_in(&self, operand: Operand, rows: usize, row: usize) -> Operand {
         match operand {
             Operand::Word(word) => Operand::Word(word),
-            Operand::Value { value, back } => {
+            Operand::Value(RowValue { value, back }) => {
                 let meant = row_meant(rows, row, back);
-                Operand::Value {
+                Operand::Value(RowValue {
                     value: self.in_row(value, meant.row),
                     back: meant.back,
-                }
+                })
             }
         }
     }
@@ -49,7 +51,7 @@ impl Body {
     // Where a value of a row of so many comes from.
     fn origin_in(&self, origin: Origin, rows: usize, row: usize) -> Origin {
         match origin {
-            Origin::Input(port) => Origin::Input(port),
+            Origin::Input(source) => Origin::Input(source),
             Origin::Made { op, a, b } => Origin::Made {
                 op,
                 a: self.operand_in(a, rows, row),
@@ -66,7 +68,7 @@ impl Body {
         rows: usize,
         row: usize,
     ) -> Result<(), AllocError> {
-        for value in 0..self.count() {
+        for value in (0..self.count()).map(ValueId) {
             let origin = self.origin_in(self.origin(value), rows, row);
             let firsts = self.firsts(value).to_vec(alloc)?;
             wide.add(alloc, origin, firsts)?;
@@ -76,14 +78,14 @@ impl Body {
 
     /// The body of so many rows, where this is that of one.
     pub fn widened(&self, alloc: Global, rows: usize) -> Result<Body, AllocError> {
-        let mut wide = Body::new(alloc, rows, self.of_row());
+        let mut wide = Body::new(alloc, rows, self.of_row);
         for row in 0..rows {
             self.add_row(alloc, &mut wide, rows, row)?;
         }
         wide.link()?;
         for row in 0..rows {
-            for out in self.outs() {
-                wide.add_out(out.port, self.in_row(out.value, row))?;
+            for out in &self.outs {
+                wide.add_out(out.sink, self.in_row(out.value, row))?;
             }
         }
         Ok(wide)

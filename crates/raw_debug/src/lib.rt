@@ -24,4 +24,3 @@ pub use debugger::Debugger;
 pub use debugging::{DebugRefusal, debug};
 pub use laws::{law_replay, law_same_stops, law_shown_state};
 pub use reading::bad_command;
-pub use tokens::{flaw_of, is_word_alone};

@@ -1,7 +1,7 @@
 //! Lines as their tokens: those of a text, and one whose bytes are given.
 ghost use Rattle.std.specs.Prelude.{◌≡◌, ◌-◌, ◌<◌, ◌≤◌, ℕ, List, [], not, length, slice_index_or, if◌then◌else◌};
 ghost use Rattle.std.specs.List.{position, position_or_len, list_all};
-ghost use Rattle.raw_text.specs.Text.{text_lines, is_word};
+ghost use Rattle.raw_text.specs.Text.{text_lines};
 ghost use Rattle.raw_text.specs.Lines.{is_hash, is_blank, is_plain, runs_of, tokens_of, line_fault};
 
 use raw_text::{MAX_LINE, Text, TextRefusal};
@@ -74,7 +74,7 @@ pub(crate) fn bytes_line(line: &[u8]) -> BytesLine<'_>
 }
 
 /// What is wrong with the bytes of a line, told as of a line with the number 1.
-pub fn flaw_of(line: &[u8]) -> Option<TextRefusal>
+pub(crate) fn flaw_of(line: &[u8]) -> Option<TextRefusal>
     ensures { result ≡ line_fault 1 line.now }
 {
     if !all_plain(line) {
@@ -84,14 +84,6 @@ pub fn flaw_of(line: &[u8]) -> Option<TextRefusal>
     } else {
         None
     }
-}
-
-/// Whether a line is this word alone.
-pub fn is_word_alone(line: &[u8], word: &[u8]) -> bool
-    ensures { result ≡ is_word word.now (tokens_of line.now) }
-{
-    let tokens = bytes_line(line);
-    tokens.count() == 1 && tokens.token(0) == word
 }
 
 // Whether a line may hold the byte.

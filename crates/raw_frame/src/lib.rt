@@ -4,16 +4,20 @@
 //! Each call is total: what lies past a table, a grid or a wire reads as nothing, and is not written.
 #![tactic(auto)]
 
+mod numbers;
 mod part;
 mod registers;
 mod slots;
 mod table;
+mod tiles;
 mod waiting;
 mod wires;
 
-pub use part::Part;
-pub use registers::{Held, Registers};
+pub use numbers::{Numbered, OutId, TileId, ValueId};
+pub use part::{Part, net_index};
+pub use registers::{Held, Register, Registers};
 pub use slots::Slots;
 pub use table::Table;
-pub use waiting::{ReadyList, Waiting};
-pub use wires::{Arrival, Wires, Word};
+pub use tiles::TileSet;
+pub use waiting::{Rank, ReadyList, Waiting};
+pub use wires::{Arrival, WirePlace, Wires, Word};

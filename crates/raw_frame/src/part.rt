@@ -1,7 +1,9 @@
 //! Parts of a grid.
+use crate::numbers::TileId;
+use crate::tiles::TileSet;
 use raw_grid::{Dir, Net, Side};
 
-/// The tiles of so many columns and rows from tile 0 on, numbered by rows.
+/// The tiles of so many columns and rows, from that in the corner on.
 #[derive(Clone, Copy, PartialEq, Eq)]
 pub struct Part {
     pub cols: usize,
@@ -15,17 +17,22 @@ impl Part {
     }
 
     /// The column of a tile.
-    pub fn column(self, tile: usize) -> usize {
-        tile.checked_rem(self.cols).unwrap_or(0)
+    pub fn column(self, tile: TileId) -> usize {
+        tile.0.checked_rem(self.cols).unwrap_or(0)
     }
 
     /// The row of a tile.
-    pub fn row(self, tile: usize) -> usize {
-        tile.checked_div(self.cols).unwrap_or(0)
+    pub fn row(self, tile: TileId) -> usize {
+        tile.0.checked_div(self.cols).unwrap_or(0)
+    }
+
+    /// The tile in a column and a row.
+    pub fn tile_at(self, column: usize, row: usize) -> TileId {
+        TileId(row.saturating_mul(self.cols).saturating_add(column))
     }
 
     /// How many links lie between two tiles.
-    pub fn distance(self, p: usize, q: usize) -> usize {
+    pub fn distance(self, p: TileId, q: TileId) -> usize {
         let columns = self.column(p).abs_diff(self.column(q));
         columns.saturating_add(self.row(p).abs_diff(self.row(q)))
     }
@@ -47,31 +54,32 @@ impl Part {
     }
 
     /// The tile at a side of a tile.
-    pub fn neighbour(self, tile: usize, side: Side) -> Option<usize> {
+    pub fn neighbour(self, tile: TileId, side: Side) -> Option<TileId> {
         let (x, y) = (self.column(tile), self.row(tile));
-        match side {
-            Side::N if y > 0 => tile.checked_sub(self.cols),
-            Side::E if x.saturating_add(1) < self.cols => tile.checked_add(1),
-            Side::S if y.saturating_add(1) < self.rows => tile.checked_add(self.cols),
-            Side::W if x > 0 => tile.checked_sub(1),
-            _ => None,
-        }
+        let number = match side {
+            Side::N if y > 0 => tile.0.checked_sub(self.cols)?,
+            Side::E if x.saturating_add(1) < self.cols => tile.0.checked_add(1)?,
+            Side::S if y.saturating_add(1) < self.rows => tile.0.checked_add(self.cols)?,
+            Side::W if x > 0 => tile.0.checked_sub(1)?,
+            _ => return None,
+        };
+        Some(TileId(number))
     }
 
-    /// The tiles that lie in a direction of a tile, one bit each: those of other columns to the east and to the west,
-    /// those of other rows to the north and to the south, and the tile itself.
-    pub fn tiles_towards(self, tile: usize, dir: Dir) -> u64 {
-        let mut tiles = 0;
-        for other in 0..self.tiles().min(64) {
+    /// The tiles that lie in a direction of a tile: those of other columns to the east and to the west, those of other
+    /// rows to the north and to the south, and the tile itself.
+    pub fn tiles_towards(self, tile: TileId, dir: Dir) -> TileSet {
+        let mut tiles = TileSet::NONE;
+        for other in (0..self.tiles()).map(TileId) {
             if self.lies(other, tile, dir) {
-                tiles |= 1 << other;
+                tiles = tiles.with(other);
             }
         }
         tiles
     }
 
     // Whether a tile lies in a direction of another.
-    fn lies(self, other: usize, tile: usize, dir: Dir) -> bool {
+    fn lies(self, other: TileId, tile: TileId, dir: Dir) -> bool {
         match dir {
             Dir::N => self.row(other) < self.row(tile),
             Dir::E => self.column(other) > self.column(tile),
@@ -81,9 +89,9 @@ impl Part {
         }
     }
 
-    /// The direction of the next tile on the way to tile 0 by the west and then by the north; the west at tile 0, where
-    /// the ports stand.
-    pub fn homewards(self, tile: usize) -> Dir {
+    /// The direction of the next tile on the way to the corner, by the west and then by the north. In the corner it is
+    /// the west, where the ports stand.
+    pub fn homewards(self, tile: TileId) -> Dir {
         if self.column(tile) == 0 && self.row(tile) > 0 {
             Dir::N
         } else {
@@ -92,7 +100,7 @@ impl Part {
     }
 
     /// The next tile on that way.
-    pub fn next_homewards(self, tile: usize) -> Option<usize> {
+    pub fn next_homewards(self, tile: TileId) -> Option<TileId> {
         match self.homewards(tile) {
             Dir::N => self.neighbour(tile, Side::N),
             _ => self.neighbour(tile, Side::W),
@@ -100,8 +108,8 @@ impl Part {
     }
 }
 
-/// The number of a network's wire among wires of its kind.
-pub(crate) fn net_index(net: Net) -> usize {
+/// The place of a network among both, from 0.
+pub fn net_index(net: Net) -> usize {
     match net {
         Net::One => 0,
         Net::Two => 1,

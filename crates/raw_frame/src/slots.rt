@@ -1,6 +1,7 @@
 //! The cycles of tiles in which an instruction is issued.
 ghost use Rattle.std.specs.Prelude.{◌≤◌};
 
+use crate::numbers::TileId;
 use std::alloc::{AllocError, Global};
 
 /// How many words of 64 cycles are kept of each tile.
@@ -32,13 +33,13 @@ impl Slots {
     }
 
     // The cycles of a word that are taken.
-    fn word(&self, tile: usize, word: usize) -> u64 {
-        let place = tile.saturating_mul(WORDS).saturating_add(word);
+    fn word(&self, tile: TileId, word: usize) -> u64 {
+        let place = tile.0.saturating_mul(WORDS).saturating_add(word);
         self.words.get(place).copied().unwrap_or(0)
     }
 
     /// The first free cycle of a tile from a cycle on.
-    pub fn free_from(&self, tile: usize, from: usize) -> usize
+    pub fn free_from(&self, tile: TileId, from: usize) -> usize
         ensures { from ≤ result }
     {
         for word in from / 64..WORDS {
@@ -51,9 +52,9 @@ impl Slots {
     }
 
     /// Takes a cycle of a tile.
-    pub fn take(&mut self, tile: usize, cycle: usize) {
+    pub fn take(&mut self, tile: TileId, cycle: usize) {
         let word = cycle / 64;
-        let place = tile.saturating_mul(WORDS).saturating_add(word);
+        let place = tile.0.saturating_mul(WORDS).saturating_add(word);
         if word < WORDS {
             if let Some(bits) = self.words.get_mut(place) {
                 *bits |= 1 << (cycle % 64);
@@ -62,7 +63,7 @@ impl Slots {
     }
 
     /// Takes the first free cycle of a tile from a cycle on, and gives it.
-    pub fn take_from(&mut self, tile: usize, from: usize) -> usize
+    pub fn take_from(&mut self, tile: TileId, from: usize) -> usize
         ensures { from ≤ result }
     {
         let cycle = self.free_from(tile, from);

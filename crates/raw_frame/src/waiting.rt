@@ -1,12 +1,24 @@
 //! What waits for its turn at a tile.
+use crate::numbers::ValueId;
 use std::alloc::{AllocError, Global};
+
+/// When a value has its turn: the least rank goes first. Words that go to the sink have rank 0.
+#[derive(Clone, Copy, PartialEq, Eq, PartialOrd, Ord)]
+pub struct Rank(pub usize);
+
+impl Rank {
+    /// That of words that go to the sink.
+    pub const FIRST: Rank = Rank(0);
+
+    /// Behind all others: that of what nothing waits for.
+    pub const LAST: Rank = Rank(usize::MAX);
+}
 
 /// A value whose turn comes by its rank.
 #[derive(Clone, Copy, PartialEq, Eq, PartialOrd, Ord)]
 pub struct Waiting {
-    /// The least rank goes first.
-    pub rank: usize,
-    pub value: usize,
+    pub rank: Rank,
+    pub value: ValueId,
 }
 
 /// Values by rising ranks.

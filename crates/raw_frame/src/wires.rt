@@ -1,28 +1,34 @@
 //! Words on their way.
+use crate::numbers::{OutId, TileId, ValueId};
 use crate::part::{Part, net_index};
-use raw_grid::{Dir, Net, Side};
+use crate::tiles::TileSet;
+use crate::waiting::Rank;
+use raw_grid::{Dir, End, Net, Side};
 use raw_model::limits::DEFAULT_DEPTH;
 use std::alloc::{AllocError, Global};
 
 /// A word on its way.
 #[derive(Clone, Copy, PartialEq, Eq)]
 pub struct Word {
-    /// The number of the value that it is; an input that nobody needs has none.
-    pub value: Option<usize>,
-    /// The tiles that still need it, one bit each.
-    pub tiles: u64,
+    /// The value that it is; an input that nobody needs has none.
+    pub value: Option<ValueId>,
+    /// The tiles that still need it.
+    pub tiles: TileSet,
     /// Which of the outs it is, if it goes to the sink.
-    pub out: Option<usize>,
-    /// The least rank goes first.
-    pub rank: usize,
+    pub out: Option<OutId>,
+    pub rank: Rank,
 }
 
 /// A value that comes to a tile.
 #[derive(Clone, Copy, PartialEq, Eq)]
 pub struct Arrival {
-    pub tile: usize,
-    pub value: usize,
+    pub tile: TileId,
+    pub value: ValueId,
 }
+
+/// The place of a wire among those of a part.
+#[derive(Clone, Copy)]
+pub struct WirePlace(usize);
 
 #[derive(Drop)]
 struct Wire {
@@ -45,25 +51,25 @@ impl Wire {
     }
 }
 
-/// The wires of a part of a grid, with a source and a sink on network 1 at the west of tile 0. In a cycle each wire is
-/// seen as it was when the cycle began; what is sent comes when the cycle ends.
+/// The wires of a part of a grid, with a source and a sink on network 1 at the west of its corner. In a cycle each wire
+/// is seen as it was when the cycle began; what is sent comes when the cycle ends.
 #[derive(Drop)]
 pub struct Wires {
     part: Part,
     wires: Vec<Wire>,
 }
 
-/// How many wires have their numbers by each tile: those to it, those from it, and its links.
+/// How many wires have their places by each tile: those that leave its switch, by their ends, and then those from it.
 const OF_TILE: usize = 12;
 
-// The place of a side among the links of a tile.
-fn side_index(side: Side) -> usize {
-    match side {
-        Side::N => 0,
-        Side::E => 1,
-        Side::S => 2,
-        Side::W => 3,
-    }
+// The place of the first wire by a tile.
+fn first_of(tile: TileId) -> usize {
+    tile.0.saturating_mul(OF_TILE)
+}
+
+// The wire that leaves a switch at an end.
+fn leaving(tile: TileId, output: End) -> WirePlace {
+    WirePlace(first_of(tile).saturating_add(usize::from(output.index())))
 }
 
 // The side of a direction that is none of the tile itself.
@@ -92,59 +98,54 @@ impl Wires {
     }
 
     /// The wire from a switch to its tile.
-    pub fn to_tile(&self, tile: usize, net: Net) -> usize {
-        tile.saturating_mul(OF_TILE).saturating_add(net_index(net))
+    pub fn to_tile(&self, tile: TileId, net: Net) -> WirePlace {
+        leaving(tile, End { net, dir: Dir::P })
     }
 
     /// The wire from a tile to its switch.
-    pub fn from_tile(&self, tile: usize, net: Net) -> usize {
-        self.to_tile(tile, net).saturating_add(2)
-    }
-
-    // The link that leaves a tile at a side.
-    fn link(&self, tile: usize, net: Net, side: Side) -> usize {
-        let first = tile.saturating_mul(OF_TILE).saturating_add(4);
-        let nets = net_index(net).saturating_mul(4);
-        first.saturating_add(nets).saturating_add(side_index(side))
+    pub fn from_tile(&self, tile: TileId, net: Net) -> WirePlace {
+        let first = first_of(tile).saturating_add(10);
+        WirePlace(first.saturating_add(net_index(net)))
     }
 
     /// The wire of the source.
-    pub fn source(&self) -> usize {
-        self.part.tiles().saturating_mul(OF_TILE)
+    pub fn source(&self) -> WirePlace {
+        WirePlace(self.part.tiles().saturating_mul(OF_TILE))
     }
 
     /// The wire of the sink.
-    pub fn sink(&self) -> usize {
-        self.source().saturating_add(1)
+    pub fn sink(&self) -> WirePlace {
+        WirePlace(self.part.tiles().saturating_mul(OF_TILE).saturating_add(1))
     }
 
     // Whether a port stands there.
-    fn has_port(&self, tile: usize, net: Net, side: Side) -> bool {
-        tile == 0 && net == Net::One && side == Side::W
+    fn has_port(&self, tile: TileId, end: End) -> bool {
+        tile == TileId::CORNER && end.net == Net::One && end.dir == Dir::W
     }
 
-    /// The wire that leaves a switch in a direction.
-    pub fn output(&self, tile: usize, net: Net, dir: Dir) -> Option<usize> {
-        let Some(side) = side_of(dir) else {
-            return Some(self.to_tile(tile, net));
+    /// The wire that leaves a switch at an end.
+    pub fn output(&self, tile: TileId, output: End) -> Option<WirePlace> {
+        let Some(side) = side_of(output.dir) else {
+            return Some(leaving(tile, output));
         };
         if self.part.neighbour(tile, side).is_some() {
-            Some(self.link(tile, net, side))
-        } else if self.has_port(tile, net, side) {
+            Some(leaving(tile, output))
+        } else if self.has_port(tile, output) {
             Some(self.sink())
         } else {
             None
         }
     }
 
-    /// The wire that comes to a switch from a direction.
-    pub fn input(&self, tile: usize, net: Net, dir: Dir) -> Option<usize> {
-        let Some(side) = side_of(dir) else {
-            return Some(self.from_tile(tile, net));
+    /// The wire that comes to a switch at an end.
+    pub fn input(&self, tile: TileId, input: End) -> Option<WirePlace> {
+        let Some(side) = side_of(input.dir) else {
+            return Some(self.from_tile(tile, input.net));
         };
         if let Some(other) = self.part.neighbour(tile, side) {
-            Some(self.link(other, net, side.opposite()))
-        } else if self.has_port(tile, net, side) {
+            let dir = Dir::from(side.opposite());
+            Some(leaving(other, End { dir, ..input }))
+        } else if self.has_port(tile, input) {
             Some(self.source())
         } else {
             None
@@ -152,29 +153,29 @@ impl Wires {
     }
 
     /// The word at a place of a wire, from its front, of those that have not been taken.
-    pub fn word(&self, wire: usize, place: usize) -> Option<Word> {
-        self.wires.get(wire)?.words.get(place).copied()
+    pub fn word(&self, wire: WirePlace, place: usize) -> Option<Word> {
+        self.wires.get(wire.0)?.words.get(place).copied()
     }
 
     /// How many words a wire held when the cycle began.
-    pub fn held(&self, wire: usize) -> usize {
-        match self.wires.get(wire) {
+    pub fn held(&self, wire: WirePlace) -> usize {
+        match self.wires.get(wire.0) {
             Some(wire) => wire.held,
             None => 0,
         }
     }
 
     /// Whether a word may be sent on a wire in this cycle.
-    pub fn has_room(&self, wire: usize) -> bool {
-        match self.wires.get(wire) {
+    pub fn has_room(&self, wire: WirePlace) -> bool {
+        match self.wires.get(wire.0) {
             Some(wire) => wire.held < usize::from(DEFAULT_DEPTH) && wire.coming.is_none(),
             None => false,
         }
     }
 
     /// Takes the word at the front of a wire.
-    pub fn take(&mut self, wire: usize) -> Option<Word> {
-        let wire = self.wires.get_mut(wire)?;
+    pub fn take(&mut self, wire: WirePlace) -> Option<Word> {
+        let wire = self.wires.get_mut(wire.0)?;
         if wire.words.is_empty() {
             None
         } else {
@@ -183,22 +184,22 @@ impl Wires {
     }
 
     /// Sends a word on a wire.
-    pub fn send(&mut self, wire: usize, word: Word) {
-        if let Some(wire) = self.wires.get_mut(wire) {
+    pub fn send(&mut self, wire: WirePlace, word: Word) {
+        if let Some(wire) = self.wires.get_mut(wire.0) {
             wire.coming = Some(word);
         }
     }
 
     // What was sent on a wire comes.
-    fn settle(&mut self, wire: usize) -> Result<Option<Word>, AllocError> {
-        match self.wires.get_mut(wire) {
+    fn settle(&mut self, wire: WirePlace) -> Result<Option<Word>, AllocError> {
+        match self.wires.get_mut(wire.0) {
             Some(wire) => wire.settle(),
             None => Ok(None),
         }
     }
 
     // What was sent to a tile comes.
-    fn settle_tile(&mut self, tile: usize, arrivals: &mut Vec<Arrival>) -> Result<(), AllocError> {
+    fn settle_tile(&mut self, tile: TileId, arrivals: &mut Vec<Arrival>) -> Result<(), AllocError> {
         for net in [Net::One, Net::Two] {
             let wire = self.to_tile(tile, net);
             if let Some(word) = self.settle(wire)? {
@@ -212,10 +213,10 @@ impl Wires {
 
     /// The end of a cycle: what was sent comes. What has come to tiles goes into a list.
     pub fn settle_all(&mut self, arrivals: &mut Vec<Arrival>) -> Result<(), AllocError> {
-        for tile in 0..self.part.tiles() {
+        for tile in (0..self.part.tiles()).map(TileId) {
             self.settle_tile(tile, arrivals)?;
         }
-        for wire in 0..self.wires.len() {
+        for wire in (0..self.wires.len()).map(WirePlace) {
             self.settle(wire)?;
         }
         Ok(())

@@ -1,16 +1,17 @@
 //! What each node of a flow means: a word that is known, or a value. It is by the normal form of terms, so that what is
 //! left out or done in another way here is seen when the schedule is proved.
-use crate::graph::{Operand, Origin};
+use crate::graph::{InputId, Operand, Origin};
 use raw_flow::{Flow, FlowOp, Node};
-use raw_frame::Table;
+use raw_frame::{Table, ValueId};
 use raw_term::{TermRefusal, TermTable};
 use std::alloc::{AllocError, Global};
 
 /// The values of a flow, and what each of its nodes means by them.
 #[derive(Drop)]
 pub(crate) struct Folded {
-    pub(crate) origins: Table<Origin>,
-    pub(crate) meanings: Table<Operand>,
+    pub(crate) origins: Table<ValueId, Origin>,
+    /// By the numbers of the nodes.
+    pub(crate) meanings: Table<usize, Operand>,
 }
 
 // How many inputs a flow has.
@@ -25,7 +26,11 @@ fn input_count(flow: &Flow) -> u32 {
 }
 
 // The terms of the nodes of a flow. Those of its inputs follow the word 0, which is the first.
-fn terms(alloc: Global, table: &mut TermTable, flow: &Flow) -> Result<Table<u32>, TermRefusal> {
+fn terms(
+    alloc: Global,
+    table: &mut TermTable,
+    flow: &Flow,
+) -> Result<Table<usize, u32>, TermRefusal> {
     let mut terms = Table::new(alloc, 0, 0)?;
     let mut input = 0_u32;
     for node in &flow.nodes {
@@ -57,23 +62,26 @@ fn made(op: FlowOp, a: Operand, b: Operand) -> Origin {
 }
 
 // Where the value of a term comes from; none for a word.
-fn origin(node: Node, term: u32, known: &Table<Operand>) -> Option<Origin> {
+fn origin(node: Node, term: u32, known: &Table<usize, Operand>) -> Option<Origin> {
     match node {
-        Node::Input => Some(Origin::Input((term as usize).saturating_sub(1))),
+        Node::Input => Some(Origin::Input(InputId((term as usize).saturating_sub(1)))),
         Node::Const { .. } => None,
         Node::Apply { op, a, b } => Some(made(op, known.at(a as usize), known.at(b as usize))),
     }
 }
 
+/// The values of some terms, and what each term means by them.
+type Values = (Table<ValueId, Origin>, Table<usize, Operand>);
+
 // What the terms of a table are, each made of earlier ones.
-fn values(alloc: Global, table: &TermTable) -> Result<(Table<Origin>, Table<Operand>), AllocError> {
-    let mut origins = Table::new(alloc, 0, Origin::Input(0))?;
+fn values(alloc: Global, table: &TermTable) -> Result<Values, AllocError> {
+    let mut origins = Table::new(alloc, 0, Origin::Input(InputId(0)))?;
     let mut known = Table::new(alloc, 0, Operand::Word(0))?;
     for term in 0..table.len() {
         let node = table.node(term).unwrap_or(Node::Const { word: 0 });
         match origin(node, term, &known) {
             Some(origin) => {
-                known.push(Operand::Value(origins.size()))?;
+                known.push(Operand::Value(ValueId(origins.size())))?;
                 origins.push(origin)?;
             }
             None => known.push(Operand::Word(table.word(term).unwrap_or(0)))?,

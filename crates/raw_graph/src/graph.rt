@@ -1,5 +1,6 @@
 //! The values that the outs of a flow need.
 use raw_flow::FlowOp;
+use raw_frame::{OutId, ValueId};
 use std::alloc::{AllocError, Global};
 
 /// What an operation is on.
@@ -7,13 +8,12 @@ use std::alloc::{AllocError, Global};
 pub enum Operand {
     /// A word that is known.
     Word(u32),
-    /// The value with this number.
-    Value(usize),
+    Value(ValueId),
 }
 
 impl Operand {
-    /// The number of the value, where it is one.
-    pub fn value(self) -> Option<usize> {
+    /// The value, where it is one.
+    pub fn value(self) -> Option<ValueId> {
         match self {
             Operand::Word(_) => None,
             Operand::Value(value) => Some(value),
@@ -41,18 +41,21 @@ pub fn commutes(op: FlowOp) -> bool {
     }
 }
 
+/// One of the inputs of a flow, by their order.
+#[derive(Clone, Copy, PartialEq, Eq)]
+pub struct InputId(pub usize);
+
 /// Where a value comes from.
 #[derive(Clone, Copy, PartialEq, Eq)]
 pub enum Origin {
-    /// It is the input before which there are so many.
-    Input(usize),
+    Input(InputId),
     /// It is made of earlier values.
     Made { op: FlowOp, a: Operand, b: Operand },
 }
 
 impl Origin {
     /// The values that it is made of, each once.
-    pub fn values(self) -> [Option<usize>; 2] {
+    pub fn values(self) -> [Option<ValueId>; 2] {
         match self {
             Origin::Input(_) => [None, None],
             Origin::Made { a, b, .. } if a == b => [a.value(), None],
@@ -72,8 +75,8 @@ impl Origin {
 #[derive(Drop)]
 struct Value {
     origin: Origin,
-    users: Vec<usize>,
-    outs: Vec<usize>,
+    users: Vec<ValueId>,
+    outs: Vec<OutId>,
 }
 
 /// Values, each made of earlier ones, and the outs that are wanted of them.
@@ -81,7 +84,7 @@ struct Value {
 pub struct Graph {
     values: Vec<Value>,
     outs: Vec<Operand>,
-    inputs: Vec<Option<usize>>,
+    inputs: Vec<Option<ValueId>>,
 }
 
 impl Graph {
@@ -95,40 +98,40 @@ impl Graph {
     }
 
     // A value uses another.
-    fn add_user(&mut self, of: Option<usize>, user: usize) -> Result<(), AllocError> {
+    fn add_user(&mut self, of: Option<ValueId>, user: ValueId) -> Result<(), AllocError> {
         if let Some(of) = of {
-            if let Some(value) = self.values.get_mut(of) {
+            if let Some(value) = self.values.get_mut(of.0) {
                 value.users.push(user)?;
             }
         }
         Ok(())
     }
 
-    /// Adds a value, and gives its number.
-    pub(crate) fn add(&mut self, alloc: Global, origin: Origin) -> Result<usize, AllocError> {
-        let number = self.values.len();
+    /// Adds a value.
+    pub(crate) fn add(&mut self, alloc: Global, origin: Origin) -> Result<ValueId, AllocError> {
+        let value = ValueId(self.values.len());
         let [first, second] = origin.values();
-        self.add_user(first, number)?;
-        self.add_user(second, number)?;
+        self.add_user(first, value)?;
+        self.add_user(second, value)?;
         self.values.push(Value {
             origin,
             users: Vec::new(alloc),
             outs: Vec::new(alloc),
         })?;
-        Ok(number)
+        Ok(value)
     }
 
-    /// Adds an input, with the number of its value where that is needed.
-    pub(crate) fn add_input(&mut self, value: Option<usize>) -> Result<(), AllocError> {
+    /// Adds an input, with its value where that is needed.
+    pub(crate) fn add_input(&mut self, value: Option<ValueId>) -> Result<(), AllocError> {
         self.inputs.push(value)?;
         Ok(())
     }
 
     /// Adds an out.
     pub(crate) fn add_out(&mut self, out: Operand) -> Result<(), AllocError> {
-        let place = self.outs.len();
-        if let Operand::Value(number) = out {
-            if let Some(value) = self.values.get_mut(number) {
+        let place = OutId(self.outs.len());
+        if let Operand::Value(value) = out {
+            if let Some(value) = self.values.get_mut(value.0) {
                 value.outs.push(place)?;
             }
         }
@@ -142,24 +145,24 @@ impl Graph {
     }
 
     /// Where a value comes from.
-    pub fn origin(&self, value: usize) -> Origin {
-        match self.values.get(value) {
+    pub fn origin(&self, value: ValueId) -> Origin {
+        match self.values.get(value.0) {
             Some(value) => value.origin,
-            None => Origin::Input(0),
+            None => Origin::Input(InputId(0)),
         }
     }
 
     /// The values that are made of a value, by rising numbers.
-    pub fn users(&self, value: usize) -> &[usize] {
-        match self.values.get(value) {
+    pub fn users(&self, value: ValueId) -> &[ValueId] {
+        match self.values.get(value.0) {
             Some(value) => value.users.as_slice(),
             None => &[],
         }
     }
 
     /// Which of the outs a value is.
-    pub fn outs_of(&self, value: usize) -> &[usize] {
-        match self.values.get(value) {
+    pub fn outs_of(&self, value: ValueId) -> &[OutId] {
+        match self.values.get(value.0) {
             Some(value) => value.outs.as_slice(),
             None => &[],
         }
@@ -175,9 +178,9 @@ impl Graph {
         self.inputs.len()
     }
 
-    /// The number of the value of an input; none where no out needs it.
-    pub fn input(&self, place: usize) -> Option<usize> {
-        match self.inputs.get(place) {
+    /// The value of an input; none where no out needs it.
+    pub fn input(&self, input: InputId) -> Option<ValueId> {
+        match self.inputs.get(input.0) {
             Some(value) => *value,
             None => None,
         }

@@ -3,19 +3,23 @@ use crate::folding::{Folded, fold};
 use crate::graph::{Graph, Operand, Origin};
 use crate::trees::as_trees;
 use raw_flow::Flow;
-use raw_frame::Table;
+use raw_frame::{Table, ValueId};
 use raw_term::TermRefusal;
 use std::alloc::{AllocError, Global};
 
 // An operand is needed.
-fn mark(needed: &mut Table<bool>, value: Option<usize>) {
+fn mark(needed: &mut Table<ValueId, bool>, value: Option<ValueId>) {
     if let Some(value) = value {
         needed.put(value, true);
     }
 }
 
 // Whether each value is needed by an out.
-fn needed(alloc: Global, folded: &Folded, outs: &[u32]) -> Result<Table<bool>, AllocError> {
+fn needed(
+    alloc: Global,
+    folded: &Folded,
+    outs: &[u32],
+) -> Result<Table<ValueId, bool>, AllocError> {
     let count = folded.origins.size();
     let mut needed = Table::new(alloc, count, false)?;
     for out in outs {
@@ -26,8 +30,8 @@ fn needed(alloc: Global, folded: &Folded, outs: &[u32]) -> Result<Table<bool>, A
 }
 
 // What needed values are made of is needed.
-fn mark_all(needed: &mut Table<bool>, folded: &Folded) {
-    for value in (0..folded.origins.size()).rev() {
+fn mark_all(needed: &mut Table<ValueId, bool>, folded: &Folded) {
+    for value in (0..folded.origins.size()).rev().map(ValueId) {
         if needed.at(value) {
             let [first, second] = folded.origins.at(value).values();
             mark(needed, first);
@@ -37,7 +41,7 @@ fn mark_all(needed: &mut Table<bool>, folded: &Folded) {
 }
 
 // An operand by the numbers of the values that are kept.
-fn renamed(numbers: &Table<Option<usize>>, operand: Operand) -> Operand {
+fn renamed(numbers: &Table<ValueId, Option<ValueId>>, operand: Operand) -> Operand {
     match operand {
         Operand::Word(word) => Operand::Word(word),
         Operand::Value(value) => match numbers.at(value) {
@@ -48,7 +52,7 @@ fn renamed(numbers: &Table<Option<usize>>, operand: Operand) -> Operand {
 }
 
 // The same of an origin.
-fn origin_renamed(numbers: &Table<Option<usize>>, origin: Origin) -> Origin {
+fn origin_renamed(numbers: &Table<ValueId, Option<ValueId>>, origin: Origin) -> Origin {
     match origin {
         Origin::Input(place) => Origin::Input(place),
         Origin::Made { op, a, b } => Origin::Made {
@@ -63,8 +67,8 @@ fn origin_renamed(numbers: &Table<Option<usize>>, origin: Origin) -> Origin {
 fn keep(
     alloc: Global,
     graph: &mut Graph,
-    numbers: &mut Table<Option<usize>>,
-    value: usize,
+    numbers: &mut Table<ValueId, Option<ValueId>>,
+    value: ValueId,
     origin: Origin,
     is_needed: bool,
 ) -> Result<(), AllocError> {
@@ -83,7 +87,7 @@ fn kept(alloc: Global, flow: &Flow, folded: &Folded) -> Result<Graph, AllocError
     let needed = needed(alloc, folded, &flow.outs)?;
     let mut numbers = Table::new(alloc, folded.origins.size(), None)?;
     let mut graph = Graph::new(alloc);
-    for value in 0..folded.origins.size() {
+    for value in (0..folded.origins.size()).map(ValueId) {
         let origin = folded.origins.at(value);
         keep(
             alloc,

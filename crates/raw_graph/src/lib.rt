@@ -7,5 +7,5 @@ mod graph;
 mod keeping;
 mod trees;
 
-pub use graph::{Graph, Operand, Origin, commutes};
+pub use graph::{Graph, InputId, Operand, Origin, commutes};
 pub use keeping::graphs_of;

@@ -1,9 +1,9 @@
 //! Chains of one operation as trees. Where operands of an operation may be joined in any order, those are joined first
 //! that are there first.
 use crate::folding::Folded;
-use crate::graph::{Operand, Origin, commutes};
+use crate::graph::{InputId, Operand, Origin, commutes};
 use raw_flow::FlowOp;
-use raw_frame::Table;
+use raw_frame::{Table, ValueId};
 use std::alloc::{AllocError, Global};
 
 // Whether operands of an operation may be joined in any order and in any groups, so that the terms of both are seen to be the
@@ -42,7 +42,7 @@ struct Leaf {
 /// sooner than the one before it.
 #[derive(Drop)]
 struct Row {
-    leaves: Table<Leaf>,
+    leaves: Table<usize, Leaf>,
     next: usize,
 }
 
@@ -98,16 +98,16 @@ impl Row {
 #[derive(Drop)]
 struct Uses {
     /// How often each is an operand; an out counts twice.
-    counts: Table<usize>,
+    counts: Table<ValueId, usize>,
     /// The operation by which each was used last.
-    by: Table<Option<FlowOp>>,
+    by: Table<ValueId, Option<FlowOp>>,
 }
 
 impl Uses {
     fn new(
         alloc: Global,
         folded: &Folded,
-        needed: &Table<bool>,
+        needed: &Table<ValueId, bool>,
         outs: &[u32],
     ) -> Result<Uses, AllocError> {
         let size = folded.origins.size();
@@ -115,7 +115,7 @@ impl Uses {
             counts: Table::new(alloc, size, 0)?,
             by: Table::new(alloc, size, None)?,
         };
-        for value in 0..size {
+        for value in (0..size).map(ValueId) {
             if needed.at(value) {
                 uses.enter(folded.origins.at(value));
             }
@@ -144,7 +144,7 @@ impl Uses {
     }
 
     // Whether a value is a part of a longer chain: one free operation uses it, and it is made by the same.
-    fn is_inner(&self, value: usize, origin: Origin) -> bool {
+    fn is_inner(&self, value: ValueId, origin: Origin) -> bool {
         match (free_op(origin), self.by.at(value)) {
             (Some(op), Some(by)) => op == by && self.counts.at(value) == 1,
             _ => false,
@@ -155,11 +155,11 @@ impl Uses {
 /// Values that are made anew.
 #[derive(Drop)]
 struct Grown {
-    origins: Table<Origin>,
+    origins: Table<ValueId, Origin>,
     /// After how many cycles each is there.
-    depths: Table<usize>,
+    depths: Table<ValueId, usize>,
     /// What each of the old values is.
-    known: Table<Operand>,
+    known: Table<ValueId, Operand>,
     /// Whether a chain had more than two operands.
     is_other: bool,
 }
@@ -180,7 +180,7 @@ impl Grown {
 
     // A new value.
     fn add(&mut self, origin: Origin, depth: usize) -> Result<Leaf, AllocError> {
-        let value = self.origins.size();
+        let value = ValueId(self.origins.size());
         self.origins.push(origin)?;
         self.depths.push(depth)?;
         Ok(Leaf {
@@ -288,18 +288,18 @@ fn inner_operands(folded: &Folded, uses: &Uses, operand: Operand) -> Option<[Ope
 pub(crate) fn as_trees(
     alloc: Global,
     folded: &Folded,
-    needed: &Table<bool>,
+    needed: &Table<ValueId, bool>,
     outs: &[u32],
 ) -> Result<Option<Folded>, AllocError> {
     let uses = Uses::new(alloc, folded, needed, outs)?;
     let size = folded.origins.size();
     let mut grown = Grown {
-        origins: Table::new(alloc, 0, Origin::Input(0))?,
+        origins: Table::new(alloc, 0, Origin::Input(InputId(0)))?,
         depths: Table::new(alloc, 0, 0)?,
         known: Table::new(alloc, size, Operand::Word(0))?,
         is_other: false,
     };
-    for value in 0..size {
+    for value in (0..size).map(ValueId) {
         let origin = folded.origins.at(value);
         if origin.is_input() || (needed.at(value) && !uses.is_inner(value, origin)) {
             let operand = grown.grow(alloc, folded, &uses, origin)?;

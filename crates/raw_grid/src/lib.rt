@@ -3,6 +3,16 @@
 //! As in MIT's Raw, tiles stand in a two-dimensional mesh, each with a switch beside it, and
 //! neighbours are joined by the point-to-point links of two static networks. The numbers of
 //! processors and wires are this project's own; `ProcId` and `WireId` say how they run.
+//!
+//! The wire between two tiles, by both of its ends (`raw_tests/src/topo.rt`):
+//!
+//! ```
+//! let topo = Topo::new(rt.alloc(), 2, 1)?;
+//! assert!(rt; topo.procs() == 4 && topo.wires() == 12);
+//! let east = topo.wire_of(ProcId(2), Way::Out, Net::One, Dir::E);
+//! let west = topo.wire_of(ProcId(3), Way::In, Net::One, Dir::W);
+//! assert!(rt; east == Some(WireId(8)) && west == Some(WireId(8)));
+//! ```
 #![tactic(auto)]
 
 mod grid;

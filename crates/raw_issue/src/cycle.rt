@@ -1,8 +1,8 @@
 //! The run, cycle by cycle.
 use crate::state::Issue;
 use crate::task::Task;
-use raw_frame::{Part, Table, Word};
-use raw_graph::Graph;
+use raw_frame::{Part, Rank, Table, TileId, TileSet, ValueId, Word};
+use raw_graph::{Graph, InputId};
 use raw_model::TileProg;
 use std::alloc::{AllocError, Global};
 
@@ -25,14 +25,14 @@ struct Ports {
 
 impl Issue<'_> {
     // The word of an input.
-    fn word_of_input(&self, place: usize) -> Word {
-        match self.task.graph.input(place) {
+    fn word_of_input(&self, input: InputId) -> Word {
+        match self.task.graph.input(input) {
             Some(value) => self.word_of(value),
             None => Word {
                 value: None,
-                tiles: 0,
+                tiles: TileSet::NONE,
                 out: None,
-                rank: 0,
+                rank: Rank::FIRST,
             },
         }
     }
@@ -41,7 +41,7 @@ impl Issue<'_> {
     fn give(&mut self, ports: &mut Ports) {
         let source = self.wires.source();
         if ports.given < self.task.graph.input_count() && self.wires.has_room(source) {
-            let word = self.word_of_input(ports.given);
+            let word = self.word_of_input(InputId(ports.given));
             self.wires.send(source, word);
             ports.given = ports.given.saturating_add(1);
             self.has_acted = true;
@@ -59,7 +59,7 @@ impl Issue<'_> {
 
     // All switches have their turns.
     fn switch_turns(&mut self) -> Result<(), AllocError> {
-        for tile in 0..self.task.part.tiles() {
+        for tile in (0..self.task.part.tiles()).map(TileId) {
             self.switch_turn(tile)?;
         }
         Ok(())
@@ -68,7 +68,7 @@ impl Issue<'_> {
     // All tiles have their turns, first those that send outs.
     fn tile_turns(&mut self) -> Result<(), AllocError> {
         self.send_outs()?;
-        for tile in 0..self.task.part.tiles() {
+        for tile in (0..self.task.part.tiles()).map(TileId) {
             self.take_turn(tile)?;
             self.set_busy(tile, false);
         }
@@ -81,7 +81,7 @@ impl Issue<'_> {
             let Some(made) = self.made.pop() else {
                 break;
             };
-            if self.task.needers(made.value) != 0 {
+            if !self.task.needers.at(made.value).is_empty() {
                 self.add_send(made.tile, made.value)?;
             }
             self.came(made)?;
@@ -142,8 +142,8 @@ pub fn issue(
     alloc: Global,
     graph: &Graph,
     part: Part,
-    homes: &Table<usize>,
-    ranks: &Table<usize>,
+    homes: &Table<ValueId, TileId>,
+    ranks: &Table<ValueId, Rank>,
     most: usize,
 ) -> Result<Option<Issued>, AllocError> {
     let task = Task::new(alloc, graph, part, homes, ranks)?;

@@ -1,8 +1,8 @@
 //! What a tile does.
 use crate::making::{Destination, Move, ReadyOperation};
-use crate::state::{Issue, OperandPlace, network};
+use crate::state::{Issue, OperandPlace};
 use crate::tile::ValuePlace;
-use raw_frame::{Arrival, Held, Word};
+use raw_frame::{Arrival, Held, OutId, Rank, Register, TileId, TileSet, ValueId, Word};
 use raw_graph::Operand;
 use raw_grid::Net;
 use raw_selection::{copy, load};
@@ -10,7 +10,7 @@ use std::alloc::AllocError;
 
 impl Issue<'_> {
     // Takes what an operand is from its network.
-    fn take_source(&mut self, tile: usize, source: OperandPlace) {
+    fn take_source(&mut self, tile: TileId, source: OperandPlace) {
         if let OperandPlace::Network(net) = source {
             let wire = self.wires.to_tile(tile, net);
             self.wires.take(wire);
@@ -18,7 +18,7 @@ impl Issue<'_> {
     }
 
     // An operand has been read.
-    fn operand_used(&mut self, tile: usize, operand: Operand) -> Result<(), AllocError> {
+    fn operand_used(&mut self, tile: TileId, operand: Operand) -> Result<(), AllocError> {
         match operand {
             Operand::Value(value) => self.used(tile, value),
             Operand::Word(word) => {
@@ -29,7 +29,7 @@ impl Issue<'_> {
     }
 
     // The operands of an operation have been read. An immediate is no constant that was loaded.
-    fn operands_used(&mut self, tile: usize, making: ReadyOperation) -> Result<(), AllocError> {
+    fn operands_used(&mut self, tile: TileId, making: ReadyOperation) -> Result<(), AllocError> {
         let first = making.step.first();
         match making.step.second() {
             Some(second) if second == first => self.operand_used(tile, first),
@@ -42,60 +42,61 @@ impl Issue<'_> {
     }
 
     /// A word that goes to all tiles that need a value.
-    pub(crate) fn word_of(&self, value: usize) -> Word {
+    pub(crate) fn word_of(&self, value: ValueId) -> Word {
         Word {
             value: Some(value),
-            tiles: self.task.needers(value),
+            tiles: self.task.needers.at(value),
             out: None,
-            rank: self.task.send_rank(value),
+            rank: self.task.sends.at(value),
         }
     }
 
     /// Sends the next out.
-    pub(crate) fn send_next_out(&mut self, tile: usize) {
+    pub(crate) fn send_next_out(&mut self, tile: TileId) {
         let word = Word {
             value: None,
-            tiles: 0,
+            tiles: TileSet::NONE,
             out: Some(self.next_out),
-            rank: 0,
+            rank: Rank::FIRST,
         };
         let wire = self.wires.from_tile(tile, Net::One);
         self.wires.send(wire, word);
-        self.next_out = self.next_out.saturating_add(1);
+        self.next_out = OutId(self.next_out.0.saturating_add(1));
     }
 
     // A value that was made is put where it goes; the register that is written.
-    fn put(&mut self, tile: usize, making: ReadyOperation) -> Result<u8, AllocError> {
+    fn put(&mut self, tile: TileId, making: ReadyOperation) -> Result<Register, AllocError> {
         match making.goal {
             Destination::Network(net) => {
                 let word = self.word_of(making.value);
                 let wire = self.wires.from_tile(tile, net);
                 self.wires.send(wire, word);
-                Ok(network(net))
+                Ok(Register::of_network(net))
             }
             Destination::Sink => {
                 self.send_next_out(tile);
-                Ok(network(Net::One))
+                Ok(Register::of_network(Net::One))
             }
             Destination::Register => self.put_in_register(tile, making.value),
         }
     }
 
     // The same of a value that is kept in a register.
-    fn put_in_register(&mut self, tile: usize, value: usize) -> Result<u8, AllocError> {
-        let register = self.free_register(tile, [0, 0]).unwrap_or(0);
-        self.hold(tile, register, Held::Value(value));
+    fn put_in_register(&mut self, tile: TileId, value: ValueId) -> Result<Register, AllocError> {
+        let register = self.free_register(tile, [None, None]);
+        let to = register.unwrap_or(Register::ZERO);
+        self.hold(tile, to, Held::Value(value));
         let local = ValuePlace {
             register,
             ..self.local(tile, value)
         };
         self.set_local(tile, value, local);
         self.made.push(Arrival { tile, value })?;
-        Ok(register)
+        Ok(to)
     }
 
     // Whether there will be a register for what is made.
-    fn has_place(&mut self, tile: usize, making: ReadyOperation) -> bool {
+    fn has_place(&mut self, tile: TileId, making: ReadyOperation) -> bool {
         if making.goal != Destination::Register || self.frees(tile, making.step) {
             return true;
         }
@@ -104,7 +105,7 @@ impl Issue<'_> {
     }
 
     // Does an operation, or makes room for what it makes.
-    fn make(&mut self, tile: usize, making: ReadyOperation) -> Result<bool, AllocError> {
+    fn make(&mut self, tile: TileId, making: ReadyOperation) -> Result<bool, AllocError> {
         if !self.has_place(tile, making) {
             let kept = [making.first.kept(), making.second.kept()];
             return self.spill(tile, kept);
@@ -120,30 +121,27 @@ impl Issue<'_> {
     }
 
     /// Does what was planned, or makes room for it. False where nothing could be done.
-    pub(crate) fn do_plan(&mut self, tile: usize, plan: Move) -> Result<bool, AllocError> {
+    pub(crate) fn do_plan(&mut self, tile: TileId, plan: Move) -> Result<bool, AllocError> {
         match plan {
             Move::Make(making) => self.make(tile, making),
-            Move::Receive { net, kept } => self.receive(tile, net, kept),
-            Move::Load { value, kept } => self.load(tile, value, kept),
-            Move::LoadWord { word, kept } => self.load_word(tile, word, kept),
+            Move::Fetch { found, kept } => self.fetch(tile, found, kept),
         }
     }
 
     /// Sends a value that has been made to the tiles that need it.
     pub(crate) fn send_value(
         &mut self,
-        tile: usize,
-        value: usize,
+        tile: TileId,
+        value: ValueId,
         net: Net,
     ) -> Result<bool, AllocError> {
         let local = self.local(tile, value);
-        let to = network(net);
-        let ins = if local.register > 0 {
-            copy(to, local.register)
-        } else {
-            load(to, local.cell)
-        };
-        self.emit(tile, ins)?;
+        let to = Register::of_network(net);
+        match (local.register, local.cell) {
+            (Some(register), _) => self.emit(tile, copy(to, register))?,
+            (None, Some(cell)) => self.emit(tile, load(to, cell))?,
+            (None, None) => return Ok(false),
+        }
         let word = self.word_of(value);
         let wire = self.wires.from_tile(tile, net);
         self.wires.send(wire, word);

@@ -1,9 +1,10 @@
 //! What has to be done before an operand can be read.
-use crate::state::{Issue, network};
+use crate::finding::OperandFound;
+use crate::state::Issue;
 use crate::tile::{HalfConstant, ValuePlace};
-use raw_frame::Held;
+use raw_frame::{Held, Register, TileId, ValueId};
 use raw_grid::Net;
-use raw_selection::{copy, load, store};
+use raw_selection::{Cell, copy, load, store};
 use raw_tile_isa::li;
 use std::alloc::AllocError;
 
@@ -12,9 +13,9 @@ pub(crate) const FEW: usize = 2;
 
 impl Issue<'_> {
     // Whether a value is the last operand of an operation at a tile.
-    fn is_urgent(&self, tile: usize, value: usize) -> bool {
+    fn is_urgent(&self, tile: TileId, value: ValueId) -> bool {
         for user in self.task.graph.users(value) {
-            if self.task.home(*user) == tile && self.missing(*user) == 0 {
+            if self.task.homes.at(*user) == tile && self.missing.at(*user) == 0 {
                 return true;
             }
         }
@@ -22,7 +23,7 @@ impl Issue<'_> {
     }
 
     // Takes a word from a network.
-    fn take(&mut self, tile: usize, net: Net) {
+    fn take(&mut self, tile: TileId, net: Net) {
         let wire = self.wires.to_tile(tile, net);
         self.wires.take(wire);
     }
@@ -30,17 +31,17 @@ impl Issue<'_> {
     // Receives a value into memory.
     fn receive_to_memory(
         &mut self,
-        tile: usize,
+        tile: TileId,
         net: Net,
-        value: usize,
+        value: ValueId,
     ) -> Result<bool, AllocError> {
         let Some(cell) = self.take_cell(tile) else {
             return Ok(false);
         };
         self.take(tile, net);
-        self.emit(tile, store(network(net), cell))?;
+        self.emit(tile, store(Register::of_network(net), cell))?;
         let local = ValuePlace {
-            cell,
+            cell: Some(cell),
             ..self.local(tile, value)
         };
         self.set_local(tile, value, local);
@@ -50,16 +51,16 @@ impl Issue<'_> {
     // Receives a value into a register.
     fn receive_to(
         &mut self,
-        tile: usize,
+        tile: TileId,
         net: Net,
-        value: usize,
-        register: u8,
+        value: ValueId,
+        register: Register,
     ) -> Result<bool, AllocError> {
         self.take(tile, net);
-        self.emit(tile, copy(register, network(net)))?;
+        self.emit(tile, copy(register, Register::of_network(net)))?;
         self.hold(tile, register, Held::Value(value));
         let local = ValuePlace {
-            register,
+            register: Some(register),
             ..self.local(tile, value)
         };
         self.set_local(tile, value, local);
@@ -67,7 +68,12 @@ impl Issue<'_> {
     }
 
     /// Receives the value at the front of a network. False where there is none, or no place for it.
-    pub(crate) fn receive(&mut self, tile: usize, net: Net, kept: u8) -> Result<bool, AllocError> {
+    pub(crate) fn receive(
+        &mut self,
+        tile: TileId,
+        net: Net,
+        kept: Option<Register>,
+    ) -> Result<bool, AllocError> {
         let wire = self.wires.to_tile(tile, net);
         let Some(word) = self.wires.word(wire, 0) else {
             return Ok(false);
@@ -81,35 +87,44 @@ impl Issue<'_> {
         {
             return Ok(true);
         }
-        match self.free_register(tile, [kept, 0]) {
+        match self.free_register(tile, [kept, None]) {
             Some(register) => self.receive_to(tile, net, value, register),
             None => self.receive_to_memory(tile, net, value),
         }
     }
 
-    /// Loads a value from memory, or makes room for it.
-    pub(crate) fn load(&mut self, tile: usize, value: usize, kept: u8) -> Result<bool, AllocError> {
-        let Some(register) = self.free_register(tile, [kept, 0]) else {
-            return self.spill(tile, [kept, 0]);
+    // Loads a value from its cell, or makes room for it.
+    fn load(
+        &mut self,
+        tile: TileId,
+        value: ValueId,
+        cell: Cell,
+        kept: Option<Register>,
+    ) -> Result<bool, AllocError> {
+        let Some(register) = self.free_register(tile, [kept, None]) else {
+            return self.spill(tile, [kept, None]);
         };
-        let local = self.local(tile, value);
-        self.emit(tile, load(register, local.cell))?;
+        self.emit(tile, load(register, cell))?;
         self.hold(tile, register, Held::Value(value));
-        self.set_local(tile, value, ValuePlace { register, ..local });
+        let local = ValuePlace {
+            register: Some(register),
+            ..self.local(tile, value)
+        };
+        self.set_local(tile, value, local);
         Ok(true)
     }
 
     /// Loads a constant or its upper half, or makes room for it.
     pub(crate) fn load_word(
         &mut self,
-        tile: usize,
+        tile: TileId,
         word: u32,
-        kept: u8,
+        kept: Option<Register>,
     ) -> Result<bool, AllocError> {
-        let Some(register) = self.free_register(tile, [kept, 0]) else {
-            return self.spill(tile, [kept, 0]);
+        let Some(register) = self.free_register(tile, [kept, None]) else {
+            return self.spill(tile, [kept, None]);
         };
-        let (first, second) = li(raw_selection::register(register), word);
+        let (first, second) = li(register.field(), word);
         self.emit(tile, first)?;
         if second.is_some() {
             self.hold(tile, register, Held::Half(word));
@@ -120,13 +135,28 @@ impl Issue<'_> {
         Ok(true)
     }
 
+    /// Receives or loads an operand, or makes room for it.
+    pub(crate) fn fetch(
+        &mut self,
+        tile: TileId,
+        found: OperandFound,
+        kept: Option<Register>,
+    ) -> Result<bool, AllocError> {
+        match found {
+            OperandFound::OnNetwork(net) => self.receive(tile, net, kept),
+            OperandFound::InMemory { value, cell } => self.load(tile, value, cell, kept),
+            OperandFound::Constant(word) => self.load_word(tile, word, kept),
+            OperandFound::At(_) | OperandFound::Nowhere => Ok(false),
+        }
+    }
+
     /// Loads the lower half of a constant.
     pub(crate) fn finish_word(
         &mut self,
-        tile: usize,
+        tile: TileId,
         half: HalfConstant,
     ) -> Result<bool, AllocError> {
-        let (_, second) = li(raw_selection::register(half.register), half.word);
+        let (_, second) = li(half.register.field(), half.word);
         if let Some(second) = second {
             self.emit(tile, second)?;
         }

@@ -1,18 +1,36 @@
 //! Where an operand is.
 use crate::state::{Issue, OperandPlace};
-use raw_frame::Held;
+use raw_frame::{Held, Rank, Register, TileId, ValueId};
 use raw_graph::Operand;
 use raw_grid::Net;
+use raw_selection::Cell;
+
+/// Where an operand can be read.
+#[derive(Clone, Copy)]
+pub(crate) struct Reading {
+    pub(crate) source: OperandPlace,
+    /// How many words stand before it on its network.
+    pub(crate) behind: usize,
+}
+
+impl Reading {
+    // From a register.
+    fn register(register: Register) -> Reading {
+        Reading {
+            source: OperandPlace::Register(register),
+            behind: 0,
+        }
+    }
+}
 
 /// Where an operand is, or what has to be done first.
 #[derive(Clone, Copy)]
 pub(crate) enum OperandFound {
-    /// It can be read there; from a network behind so many words.
-    At { source: OperandPlace, place: usize },
+    At(Reading),
     /// A word has to be received from a network.
     OnNetwork(Net),
     /// It has to be loaded from memory.
-    InMemory(usize),
+    InMemory { value: ValueId, cell: Cell },
     /// A constant that has to be loaded.
     Constant(u32),
     /// It has not come.
@@ -20,18 +38,18 @@ pub(crate) enum OperandFound {
 }
 
 impl OperandFound {
-    /// The register that has to keep what it holds; 0 for none.
-    pub(crate) fn kept(self) -> u8 {
+    /// The register that has to keep what it holds.
+    pub(crate) fn kept(self) -> Option<Register> {
         match self {
-            OperandFound::At { source, .. } => source.kept(),
-            _ => 0,
+            OperandFound::At(reading) => reading.source.kept(),
+            _ => None,
         }
     }
 }
 
 impl Issue<'_> {
     // The place of a value on the wire from a network to a tile.
-    fn place_on(&self, tile: usize, net: Net, value: usize) -> Option<usize> {
+    fn place_on(&self, tile: TileId, net: Net, value: ValueId) -> Option<usize> {
         let wire = self.wires.to_tile(tile, net);
         for place in 0..4 {
             if self.wires.word(wire, place)?.value == Some(value) {
@@ -42,7 +60,7 @@ impl Issue<'_> {
     }
 
     /// The network from which a value comes to a tile, and behind how many words.
-    pub(crate) fn on_network(&self, tile: usize, value: usize) -> Option<(Net, usize)> {
+    pub(crate) fn on_network(&self, tile: TileId, value: ValueId) -> Option<(Net, usize)> {
         if let Some(place) = self.place_on(tile, Net::One, value) {
             return Some((Net::One, place));
         }
@@ -51,46 +69,37 @@ impl Issue<'_> {
     }
 
     // Where a constant is.
-    fn find_word(&self, tile: usize, word: u32) -> OperandFound {
+    fn find_word(&self, tile: TileId, word: u32) -> OperandFound {
         if word == 0 {
-            return OperandFound::At {
-                source: OperandPlace::Register(0),
-                place: 0,
-            };
+            return OperandFound::At(Reading::register(Register::ZERO));
         }
         match self.that_holds(tile, Held::Word(word)) {
-            Some(register) => OperandFound::At {
-                source: OperandPlace::Register(register),
-                place: 0,
-            },
+            Some(register) => OperandFound::At(Reading::register(register)),
             None => OperandFound::Constant(word),
         }
     }
 
     // Where a value is.
-    fn find_value(&self, tile: usize, value: usize) -> OperandFound {
+    fn find_value(&self, tile: TileId, value: ValueId) -> OperandFound {
         let local = self.local(tile, value);
-        if local.register > 0 {
-            return OperandFound::At {
-                source: OperandPlace::Register(local.register),
-                place: 0,
-            };
+        if let Some(register) = local.register {
+            return OperandFound::At(Reading::register(register));
         }
-        if local.cell > 0 {
-            return OperandFound::InMemory(value);
+        if let Some(cell) = local.cell {
+            return OperandFound::InMemory { value, cell };
         }
         match self.on_network(tile, value) {
-            Some((net, place)) if place < 2 && local.uses == 1 => OperandFound::At {
+            Some((net, behind)) if behind < 2 && local.uses == 1 => OperandFound::At(Reading {
                 source: OperandPlace::Network(net),
-                place,
-            },
+                behind,
+            }),
             Some((net, _)) => OperandFound::OnNetwork(net),
             None => OperandFound::Nowhere,
         }
     }
 
     /// Where an operand is at a tile.
-    pub(crate) fn find(&self, tile: usize, operand: Operand) -> OperandFound {
+    pub(crate) fn find(&self, tile: TileId, operand: Operand) -> OperandFound {
         match operand {
             Operand::Word(word) => self.find_word(tile, word),
             Operand::Value(value) => self.find_value(tile, value),
@@ -98,15 +107,15 @@ impl Issue<'_> {
     }
 
     /// The least rank of what still needs a value at a tile.
-    pub(crate) fn need(&self, tile: usize, value: usize) -> usize {
-        let mut least = usize::MAX;
+    pub(crate) fn need(&self, tile: TileId, value: ValueId) -> Rank {
+        let mut least = Rank::LAST;
         for user in self.task.graph.users(value) {
-            if self.task.home(*user) == tile && !self.is_issued(*user) {
-                least = self.task.rank(*user).min(least);
+            if self.task.homes.at(*user) == tile && !self.issued.at(*user) {
+                least = self.task.ranks.at(*user).min(least);
             }
         }
         if self.is_sending(tile, value) {
-            self.task.send_rank(value).min(least)
+            self.task.sends.at(value).min(least)
         } else {
             least
         }

@@ -1,6 +1,7 @@
 //! What a tile can do for an operation.
-use crate::finding::OperandFound;
+use crate::finding::{OperandFound, Reading};
 use crate::state::{Issue, OperandPlace};
+use raw_frame::{Register, TileId, ValueId};
 use raw_graph::Operand;
 use raw_grid::Net;
 use raw_selection::Operation;
@@ -18,89 +19,82 @@ pub(crate) enum Destination {
 /// An operation that can be done now.
 #[derive(Clone, Copy)]
 pub(crate) struct ReadyOperation {
-    pub(crate) value: usize,
+    pub(crate) value: ValueId,
     pub(crate) step: Operation,
     pub(crate) first: OperandPlace,
     pub(crate) second: OperandPlace,
     pub(crate) goal: Destination,
 }
 
-/// What a tile can do for an operation: the operation, or what has to be done first. A register is kept by what is done
-/// first; 0 is none.
+/// What a tile can do for an operation.
 #[derive(Clone, Copy)]
 pub(crate) enum Move {
     Make(ReadyOperation),
-    Receive { net: Net, kept: u8 },
-    Load { value: usize, kept: u8 },
-    LoadWord { word: u32, kept: u8 },
+    /// An operand has to be received or loaded first, while a register keeps what it holds.
+    Fetch {
+        found: OperandFound,
+        kept: Option<Register>,
+    },
 }
 
-// What has to be received.
-fn to_receive(found: OperandFound, kept: u8) -> Option<Move> {
+// Whether an operand has to be received or loaded, and its turn then: words on networks come first.
+fn turn_of(found: OperandFound) -> Option<u8> {
     match found {
-        OperandFound::OnNetwork(net) => Some(Move::Receive { net, kept }),
-        _ => None,
-    }
-}
-
-// What has to be loaded from memory.
-fn to_load(found: OperandFound, kept: u8) -> Option<Move> {
-    match found {
-        OperandFound::InMemory(value) => Some(Move::Load { value, kept }),
-        _ => None,
-    }
-}
-
-// The constant that has to be loaded.
-fn to_load_word(found: OperandFound, kept: u8) -> Option<Move> {
-    match found {
-        OperandFound::Constant(word) => Some(Move::LoadWord { word, kept }),
-        _ => None,
+        OperandFound::OnNetwork(_) => Some(0),
+        OperandFound::InMemory { .. } => Some(1),
+        OperandFound::Constant(_) => Some(2),
+        OperandFound::At(_) | OperandFound::Nowhere => None,
     }
 }
 
 // What has to be done first, of two operands.
 fn to_fetch(first: OperandFound, second: OperandFound) -> Option<Move> {
-    let (one, two) = (first.kept(), second.kept());
-    to_receive(first, two)
-        .or(to_receive(second, one))
-        .or(to_load(first, two))
-        .or(to_load(second, one))
-        .or(to_load_word(first, two))
-        .or(to_load_word(second, one))
+    let (found, kept) = match (turn_of(first), turn_of(second)) {
+        (Some(one), Some(two)) if two < one => (second, first.kept()),
+        (Some(_), _) => (first, second.kept()),
+        (None, Some(_)) => (second, first.kept()),
+        (None, None) => return None,
+    };
+    Some(Move::Fetch { found, kept })
 }
 
 // The network from which a word has to be received so that one operand comes to its front.
-fn behind(source: OperandPlace, place: usize) -> Option<Net> {
-    match source {
-        OperandPlace::Network(net) if place > 0 => Some(net),
+fn behind(reading: Reading) -> Option<Net> {
+    match reading.source {
+        OperandPlace::Network(net) if reading.behind > 0 => Some(net),
         _ => None,
     }
 }
 
-// The same where both come from one network: they have to be different words, in the order in which they are read.
-fn behind_both(net: Net, places: (usize, usize), commutes: bool) -> Option<Net> {
-    match places {
-        (0, 1) => None,
-        (1, 0) if commutes => None,
-        _ => Some(net),
+// The same of two operands. Where both come from one network, they have to be different words, in the order in which
+// they are read.
+fn in_the_way(step: Operation, first: Reading, second: Reading) -> Option<Net> {
+    match (first.source, second.source) {
+        (OperandPlace::Network(one), OperandPlace::Network(two)) if one == two => {
+            match (first.behind, second.behind) {
+                (0, 1) => None,
+                (1, 0) if step.commutes() => None,
+                _ => Some(one),
+            }
+        }
+        _ => behind(first).or(behind(second)),
     }
 }
 
 impl Issue<'_> {
     /// Whether a value is in a register that its next use frees.
-    fn is_freed(&self, tile: usize, operand: Operand) -> bool {
+    fn is_freed(&self, tile: TileId, operand: Operand) -> bool {
         match operand {
             Operand::Value(value) => {
                 let local = self.local(tile, value);
-                local.register > 0 && local.uses == 1
+                local.register.is_some() && local.uses == 1
             }
             Operand::Word(_) => false,
         }
     }
 
     /// Whether an operation frees a register.
-    pub(crate) fn frees(&self, tile: usize, step: Operation) -> bool {
+    pub(crate) fn frees(&self, tile: TileId, step: Operation) -> bool {
         let second = match step.second() {
             Some(second) => self.is_freed(tile, second),
             None => false,
@@ -109,7 +103,7 @@ impl Issue<'_> {
     }
 
     /// The network on which a value is sent: the second, if it is not much fuller than the first.
-    pub(crate) fn pick(&self, tile: usize) -> Option<Net> {
+    pub(crate) fn pick(&self, tile: TileId) -> Option<Net> {
         let one = self.wires.from_tile(tile, Net::One);
         let two = self.wires.from_tile(tile, Net::Two);
         let is_fuller = self.wires.held(two) > self.wires.held(one).saturating_add(1);
@@ -125,10 +119,10 @@ impl Issue<'_> {
     }
 
     // Where a value goes; none where it has to wait.
-    fn goal(&self, tile: usize, value: usize) -> Option<Destination> {
+    fn goal(&self, tile: TileId, value: ValueId) -> Option<Destination> {
         let outs = self.task.graph.outs_of(value);
-        let is_brought = self.task.needers(value) != 0;
-        if self.task.local_uses(value) > 0 {
+        let is_brought = !self.task.needers.at(value).is_empty();
+        if self.task.local_uses.at(value) > 0 {
             return Some(Destination::Register);
         }
         if is_brought && outs.is_empty() {
@@ -144,51 +138,37 @@ impl Issue<'_> {
         }
     }
 
-    // The network from which a word has to be received before two operands can be read.
-    fn in_the_way(
-        &self,
-        step: Operation,
-        first: (OperandPlace, usize),
-        second: (OperandPlace, usize),
-    ) -> Option<Net> {
-        match (first.0, second.0) {
-            (OperandPlace::Network(one), OperandPlace::Network(two)) if one == two => {
-                behind_both(one, (first.1, second.1), step.commutes())
-            }
-            _ => behind(first.0, first.1).or(behind(second.0, second.1)),
-        }
-    }
-
     // The operation, or what has to be received first.
     fn plan_making(
         &self,
-        tile: usize,
-        value: usize,
+        tile: TileId,
+        value: ValueId,
         step: Operation,
-        first: (OperandPlace, usize),
-        second: (OperandPlace, usize),
+        first: Reading,
+        second: Reading,
     ) -> Option<Move> {
-        if let Some(net) = self.in_the_way(step, first, second) {
-            let kept = first.0.kept().max(second.0.kept());
-            return Some(Move::Receive { net, kept });
+        if let Some(net) = in_the_way(step, first, second) {
+            let kept = first.source.kept().or(second.source.kept());
+            let found = OperandFound::OnNetwork(net);
+            return Some(Move::Fetch { found, kept });
         }
         let goal = self.goal(tile, value)?;
         Some(Move::Make(ReadyOperation {
             value,
             step,
-            first: first.0,
-            second: second.0,
+            first: first.source,
+            second: second.source,
             goal,
         }))
     }
 
     // Where the second operand is; register 0 stands for none.
-    fn find_second(&self, tile: usize, step: Operation) -> OperandFound {
+    fn find_second(&self, tile: TileId, step: Operation) -> OperandFound {
         self.find(tile, step.second().unwrap_or(Operand::Word(0)))
     }
 
     /// What a tile can do for a value, if anything.
-    pub(crate) fn plan(&self, tile: usize, value: usize) -> Option<Move> {
+    pub(crate) fn plan(&self, tile: TileId, value: ValueId) -> Option<Move> {
         let step = self.task.step(value)?;
         let first = self.find(tile, step.first());
         let second = self.find_second(tile, step);
@@ -196,16 +176,9 @@ impl Issue<'_> {
             return Some(plan);
         }
         match (first, second) {
-            (
-                OperandFound::At {
-                    source: one,
-                    place: before_one,
-                },
-                OperandFound::At {
-                    source: two,
-                    place: before_two,
-                },
-            ) => self.plan_making(tile, value, step, (one, before_one), (two, before_two)),
+            (OperandFound::At(first), OperandFound::At(second)) => {
+                self.plan_making(tile, value, step, first, second)
+            }
             _ => None,
         }
     }

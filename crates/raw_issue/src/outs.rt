@@ -1,15 +1,18 @@
 //! The outs, which are sent in their order.
-use crate::state::{Issue, network};
-use raw_frame::Held;
+use crate::state::Issue;
+use raw_frame::{Held, Register, TileId, ValueId};
 use raw_graph::Operand;
 use raw_grid::Net;
 use raw_selection::{copy, load};
 use raw_tile_isa::{NETWORK_1, li};
 use std::alloc::AllocError;
 
+/// The register that stands for the network of the sink.
+const TO_SINK: Register = Register(NETWORK_1);
+
 impl Issue<'_> {
     // Whether an out is at the tile that sends it.
-    fn is_here(&self, tile: usize, out: Operand) -> bool {
+    fn is_here(&self, tile: TileId, out: Operand) -> bool {
         match out {
             Operand::Word(_) => true,
             Operand::Value(value) => {
@@ -19,7 +22,7 @@ impl Issue<'_> {
     }
 
     // Whether the next out can be sent in this cycle.
-    fn can_send(&self, tile: usize, out: Operand) -> bool {
+    fn can_send(&self, tile: TileId, out: Operand) -> bool {
         let is_free = match self.tile(tile) {
             Some(tile) => !tile.is_busy && tile.half.is_none(),
             None => false,
@@ -30,13 +33,13 @@ impl Issue<'_> {
     }
 
     // Sends a constant, or loads it first.
-    fn send_word(&mut self, tile: usize, word: u32) -> Result<bool, AllocError> {
+    fn send_word(&mut self, tile: TileId, word: u32) -> Result<bool, AllocError> {
         let held = self.that_holds(tile, Held::Word(word));
         let (first, second) = li(NETWORK_1, word);
         match held {
-            Some(register) => self.emit(tile, copy(NETWORK_1, register))?,
+            Some(register) => self.emit(tile, copy(TO_SINK, register))?,
             None if second.is_none() => self.emit(tile, first)?,
-            None => return self.load_word(tile, word, 0),
+            None => return self.load_word(tile, word, None),
         }
         self.constant_used(tile, word);
         self.send_next_out(tile);
@@ -44,31 +47,28 @@ impl Issue<'_> {
     }
 
     // Sends a value that comes from a network, or receives what is before it.
-    fn send_from_network(&mut self, tile: usize, value: usize) -> Result<bool, AllocError> {
+    fn send_from_network(&mut self, tile: TileId, value: ValueId) -> Result<bool, AllocError> {
         let Some((net, place)) = self.on_network(tile, value) else {
             return Ok(false);
         };
         if place > 0 || self.local(tile, value).uses != 1 {
-            return self.receive(tile, net, 0);
+            return self.receive(tile, net, None);
         }
         let wire = self.wires.to_tile(tile, net);
         self.wires.take(wire);
-        self.emit(tile, copy(NETWORK_1, network(net)))?;
+        self.emit(tile, copy(TO_SINK, Register::of_network(net)))?;
         self.used(tile, value)?;
         self.send_next_out(tile);
         Ok(true)
     }
 
     // Sends a value from its register or from memory.
-    fn send_kept(&mut self, tile: usize, value: usize) -> Result<bool, AllocError> {
+    fn send_kept(&mut self, tile: TileId, value: ValueId) -> Result<bool, AllocError> {
         let local = self.local(tile, value);
-        if !local.is_kept() {
-            return self.send_from_network(tile, value);
-        }
-        if local.register > 0 {
-            self.emit(tile, copy(NETWORK_1, local.register))?;
-        } else {
-            self.emit(tile, load(NETWORK_1, local.cell))?;
+        match (local.register, local.cell) {
+            (Some(register), _) => self.emit(tile, copy(TO_SINK, register))?,
+            (None, Some(cell)) => self.emit(tile, load(TO_SINK, cell))?,
+            (None, None) => return self.send_from_network(tile, value),
         }
         self.used(tile, value)?;
         self.send_next_out(tile);

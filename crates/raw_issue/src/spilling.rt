@@ -1,21 +1,27 @@
 //! Registers for new values, and memory where there is none.
-use crate::state::Issue;
+use crate::state::{Issue, Kept};
 use crate::tile::ValuePlace;
-use raw_frame::{Held, Registers};
+use raw_frame::{Held, Rank, Register, Registers, TileId, ValueId};
 use raw_selection::store;
 use std::alloc::AllocError;
 
 impl Issue<'_> {
     // The register whose value is needed last, of those that hold values; of those with a copy in memory alone, where
     // that is asked for.
-    fn needed_last(&self, tile: usize, kept: [u8; 2], in_memory: bool) -> Option<(u8, usize)> {
+    fn needed_last(
+        &self,
+        tile: TileId,
+        kept: Kept,
+        in_memory: bool,
+    ) -> Option<(Register, ValueId)> {
         let mut best = None;
-        let mut most = 0;
-        for register in Registers::ALL {
+        let mut most = Rank::FIRST;
+        for number in Registers::NUMBERS {
+            let register = Register(number);
             if let Held::Value(value) = self.held(tile, register) {
-                let fits = !in_memory || self.local(tile, value).cell > 0;
+                let fits = !in_memory || self.local(tile, value).cell.is_some();
                 let need = self.need(tile, value);
-                if fits && !kept.contains(&register) && (need > most || best.is_none()) {
+                if fits && !kept.contains(&Some(register)) && (need > most || best.is_none()) {
                     most = need;
                     best = Some((register, value));
                 }
@@ -25,10 +31,10 @@ impl Issue<'_> {
     }
 
     // A register whose value has a copy in memory.
-    fn copied_register(&mut self, tile: usize, kept: [u8; 2]) -> Option<u8> {
+    fn copied_register(&mut self, tile: TileId, kept: Kept) -> Option<Register> {
         let (register, value) = self.needed_last(tile, kept, true)?;
         let local = ValuePlace {
-            register: 0,
+            register: None,
             ..self.local(tile, value)
         };
         self.set_local(tile, value, local);
@@ -36,13 +42,13 @@ impl Issue<'_> {
     }
 
     // A register with a constant.
-    fn constant_register(&self, tile: usize, kept: [u8; 2]) -> Option<u8> {
+    fn constant_register(&self, tile: TileId, kept: Kept) -> Option<Register> {
         self.tile(tile)?.registers.with_word(kept)
     }
 
     /// A register that is free, or is made free by what can be loaded again: a constant, or a value with a copy in
     /// memory. Registers that are kept are no such ones.
-    pub(crate) fn free_register(&mut self, tile: usize, kept: [u8; 2]) -> Option<u8> {
+    pub(crate) fn free_register(&mut self, tile: TileId, kept: Kept) -> Option<Register> {
         if let Some(register) = self.that_holds(tile, Held::Nothing) {
             return Some(register);
         }
@@ -55,7 +61,7 @@ impl Issue<'_> {
     }
 
     /// Stores the value that is needed last. False where there is none, or no memory for it.
-    pub(crate) fn spill(&mut self, tile: usize, kept: [u8; 2]) -> Result<bool, AllocError> {
+    pub(crate) fn spill(&mut self, tile: TileId, kept: Kept) -> Result<bool, AllocError> {
         let Some((register, value)) = self.needed_last(tile, kept, false) else {
             return Ok(false);
         };
@@ -64,8 +70,8 @@ impl Issue<'_> {
         };
         self.emit(tile, store(register, cell))?;
         let local = ValuePlace {
-            register: 0,
-            cell,
+            register: None,
+            cell: Some(cell),
             ..self.local(tile, value)
         };
         self.set_local(tile, value, local);
@@ -74,15 +80,15 @@ impl Issue<'_> {
     }
 
     /// A value has been used at a tile. Where that was the last use, its register and its cell are free.
-    pub(crate) fn used(&mut self, tile: usize, value: usize) -> Result<(), AllocError> {
+    pub(crate) fn used(&mut self, tile: TileId, value: ValueId) -> Result<(), AllocError> {
         let mut local = self.local(tile, value);
         local.uses = local.uses.saturating_sub(1);
         if local.uses == 0 {
-            if local.register > 0 {
-                self.hold(tile, local.register, Held::Nothing);
+            if let Some(register) = local.register {
+                self.hold(tile, register, Held::Nothing);
             }
-            if local.cell > 0 {
-                self.free_cell(tile, local.cell)?;
+            if let Some(cell) = local.cell {
+                self.free_cell(tile, cell)?;
             }
             local = ValuePlace::NONE;
         }

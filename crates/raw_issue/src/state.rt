@@ -1,11 +1,12 @@
 //! The state of a run.
 use crate::task::Task;
 use crate::tile::{HalfConstant, Tile, ValuePlace};
-use raw_frame::{Arrival, Held, Table, Waiting, Wires};
+use raw_frame::{Arrival, Held, OutId, Register, Table, TileId, ValueId, Waiting, Wires};
 use raw_graph::Operand;
 use raw_grid::Net;
 use raw_model::TileProg;
-use raw_tile_isa::{NETWORK_1, NETWORK_2, TileIns};
+use raw_selection::Cell;
+use raw_tile_isa::TileIns;
 use std::alloc::{AllocError, Global};
 
 /// A run of a task: what stands where in the cycle that has been come to, and what has been written down.
@@ -16,16 +17,17 @@ pub(crate) struct Issue<'a> {
     tiles: Vec<Tile>,
     pub(crate) programs: Vec<TileProg>,
     /// Where each value is at each tile.
-    locals: Table<ValuePlace>,
+    locals: Table<usize, ValuePlace>,
     /// How many operands of each value have not come yet.
-    missing: Table<usize>,
-    issued: Table<bool>,
+    pub(crate) missing: Table<ValueId, usize>,
+    /// Whether each value has been made.
+    pub(crate) issued: Table<ValueId, bool>,
     /// How many values are still to be made.
     pub(crate) left: usize,
     /// The next out that is sent.
-    pub(crate) next_out: usize,
+    pub(crate) next_out: OutId,
     /// How many outs have passed each switch.
-    pub(crate) passed: Table<usize>,
+    pub(crate) passed: Table<TileId, usize>,
     /// What has come to tiles, or was made there, in this cycle.
     pub(crate) arrivals: Vec<Arrival>,
     /// Values that were made into registers in this cycle.
@@ -34,35 +36,30 @@ pub(crate) struct Issue<'a> {
     pub(crate) has_acted: bool,
 }
 
+/// The registers that have to keep what they hold.
+pub(crate) type Kept = [Option<Register>; 2];
+
 /// Where an operand is read.
 #[derive(Clone, Copy)]
 pub(crate) enum OperandPlace {
-    Register(u8),
+    Register(Register),
     Network(Net),
 }
 
-/// The register that stands for a network.
-pub(crate) fn network(net: Net) -> u8 {
-    match net {
-        Net::One => NETWORK_1,
-        Net::Two => NETWORK_2,
-    }
-}
-
 impl OperandPlace {
-    /// The number of the register that is read.
-    pub(crate) fn register(self) -> u8 {
+    /// The register that is read.
+    pub(crate) fn register(self) -> Register {
         match self {
             OperandPlace::Register(register) => register,
-            OperandPlace::Network(net) => network(net),
+            OperandPlace::Network(net) => Register::of_network(net),
         }
     }
 
-    /// The register that has to keep what it holds; 0 for none.
-    pub(crate) fn kept(self) -> u8 {
+    /// The register that has to keep what it holds.
+    pub(crate) fn kept(self) -> Option<Register> {
         match self {
-            OperandPlace::Register(register) => register,
-            OperandPlace::Network(_) => 0,
+            OperandPlace::Register(register) => Some(register),
+            OperandPlace::Network(_) => None,
         }
     }
 }
@@ -98,7 +95,7 @@ impl<'a> Issue<'a> {
             missing: Table::new(alloc, count, 0)?,
             issued: Table::new(alloc, count, false)?,
             left: 0,
-            next_out: 0,
+            next_out: OutId(0),
             passed: Table::new(alloc, part.tiles(), 0)?,
             arrivals: Vec::new(alloc),
             made: Vec::new(alloc),
@@ -109,217 +106,206 @@ impl<'a> Issue<'a> {
     }
 
     // The place of a value at a tile.
-    fn place(&self, tile: usize, value: usize) -> usize {
+    fn place(&self, tile: TileId, value: ValueId) -> usize {
         let count = self.task.graph.count();
-        tile.saturating_mul(count).saturating_add(value)
+        tile.0.saturating_mul(count).saturating_add(value.0)
     }
 
     /// Where a value is at a tile.
-    pub(crate) fn local(&self, tile: usize, value: usize) -> ValuePlace {
+    pub(crate) fn local(&self, tile: TileId, value: ValueId) -> ValuePlace {
         self.locals.at(self.place(tile, value))
     }
 
     /// From now on a value is there.
-    pub(crate) fn set_local(&mut self, tile: usize, value: usize, local: ValuePlace) {
+    pub(crate) fn set_local(&mut self, tile: TileId, value: ValueId, local: ValuePlace) {
         let place = self.place(tile, value);
         self.locals.put(place, local);
     }
 
     /// A tile.
-    pub(crate) fn tile(&self, tile: usize) -> Option<&Tile> {
-        self.tiles.get(tile)
+    pub(crate) fn tile(&self, tile: TileId) -> Option<&Tile> {
+        self.tiles.get(tile.0)
     }
 
     /// What a register of a tile holds.
-    pub(crate) fn held(&self, tile: usize, register: u8) -> Held {
-        match self.tiles.get(tile) {
+    pub(crate) fn held(&self, tile: TileId, register: Register) -> Held {
+        match self.tiles.get(tile.0) {
             Some(tile) => tile.registers.at(register),
             None => Held::Nothing,
         }
     }
 
     /// From now on a register of a tile holds this.
-    pub(crate) fn hold(&mut self, tile: usize, register: u8, held: Held) {
-        if let Some(tile) = self.tiles.get_mut(tile) {
+    pub(crate) fn hold(&mut self, tile: TileId, register: Register, held: Held) {
+        if let Some(tile) = self.tiles.get_mut(tile.0) {
             tile.registers.put(register, held);
         }
     }
 
     /// The register of a tile that holds this.
-    pub(crate) fn that_holds(&self, tile: usize, held: Held) -> Option<u8> {
-        self.tiles.get(tile)?.registers.that_holds(held)
+    pub(crate) fn that_holds(&self, tile: TileId, held: Held) -> Option<Register> {
+        self.tiles.get(tile.0)?.registers.that_holds(held)
     }
 
     /// How many registers of a tile can take a value.
-    pub(crate) fn room(&self, tile: usize) -> usize {
-        match self.tiles.get(tile) {
+    pub(crate) fn room(&self, tile: TileId) -> usize {
+        match self.tiles.get(tile.0) {
             Some(tile) => tile.registers.room(),
             None => 0,
         }
     }
 
     /// A cell of a tile's memory that is free.
-    pub(crate) fn take_cell(&mut self, tile: usize) -> Option<u16> {
-        self.tiles.get_mut(tile)?.take_cell()
-    }
-
-    /// Whether a value has been made.
-    pub(crate) fn is_issued(&self, value: usize) -> bool {
-        self.issued.at(value)
-    }
-
-    /// How many operands of a value have not come yet.
-    pub(crate) fn missing(&self, value: usize) -> usize {
-        self.missing.at(value)
+    pub(crate) fn take_cell(&mut self, tile: TileId) -> Option<Cell> {
+        self.tiles.get_mut(tile.0)?.take_cell()
     }
 
     /// A value has been made.
-    pub(crate) fn set_issued(&mut self, tile: usize, value: usize) {
+    pub(crate) fn set_issued(&mut self, tile: TileId, value: ValueId) {
         self.issued.put(value, true);
         self.left = self.left.saturating_sub(1);
         let waiting = Waiting {
-            rank: self.task.rank(value),
+            rank: self.task.ranks.at(value),
             value,
         };
-        if let Some(tile) = self.tiles.get_mut(tile) {
+        if let Some(tile) = self.tiles.get_mut(tile.0) {
             tile.ready.remove(waiting);
         }
     }
 
     // The operands of a value have come.
-    fn set_ready(&mut self, tile: usize, value: usize) -> Result<(), AllocError> {
+    fn set_ready(&mut self, tile: TileId, value: ValueId) -> Result<(), AllocError> {
         let waiting = Waiting {
-            rank: self.task.rank(value),
+            rank: self.task.ranks.at(value),
             value,
         };
-        match self.tiles.get_mut(tile) {
+        match self.tiles.get_mut(tile.0) {
             Some(tile) => tile.ready.add(waiting),
             None => Ok(()),
         }
     }
 
     /// A value on its way to others.
-    pub(crate) fn sending(&self, value: usize) -> Waiting {
+    pub(crate) fn sending(&self, value: ValueId) -> Waiting {
         Waiting {
-            rank: self.task.send_rank(value),
+            rank: self.task.sends.at(value),
             value,
         }
     }
 
     /// A value is to be sent by a tile.
-    pub(crate) fn add_send(&mut self, tile: usize, value: usize) -> Result<(), AllocError> {
+    pub(crate) fn add_send(&mut self, tile: TileId, value: ValueId) -> Result<(), AllocError> {
         let waiting = self.sending(value);
-        match self.tiles.get_mut(tile) {
+        match self.tiles.get_mut(tile.0) {
             Some(tile) => tile.sends.add(waiting),
             None => Ok(()),
         }
     }
 
     /// A value has been sent by a tile.
-    pub(crate) fn set_sent(&mut self, tile: usize, value: usize) {
+    pub(crate) fn set_sent(&mut self, tile: TileId, value: ValueId) {
         let waiting = self.sending(value);
-        if let Some(tile) = self.tiles.get_mut(tile) {
+        if let Some(tile) = self.tiles.get_mut(tile.0) {
             tile.sends.remove(waiting);
         }
     }
 
     /// Whether a tile is still to send a value.
-    pub(crate) fn is_sending(&self, tile: usize, value: usize) -> bool {
-        match self.tiles.get(tile) {
+    pub(crate) fn is_sending(&self, tile: TileId, value: ValueId) -> bool {
+        match self.tiles.get(tile.0) {
             Some(tile) => tile.sends.has(self.sending(value)),
             None => false,
         }
     }
 
     /// A constant has been used at a tile.
-    pub(crate) fn constant_used(&mut self, tile: usize, word: u32) {
-        if let Some(tile) = self.tiles.get_mut(tile) {
+    pub(crate) fn constant_used(&mut self, tile: TileId, word: u32) {
+        if let Some(tile) = self.tiles.get_mut(tile.0) {
             tile.constant_used(word);
         }
     }
 
     // A constant is needed at a tile; register 0 holds 0.
-    fn want(&mut self, tile: usize, word: u32) -> Result<(), AllocError> {
+    fn want(&mut self, tile: TileId, word: u32) -> Result<(), AllocError> {
         if word == 0 {
             return Ok(());
         }
-        match self.tiles.get_mut(tile) {
+        match self.tiles.get_mut(tile.0) {
             Some(tile) => tile.want(word),
             None => Ok(()),
         }
     }
 
     /// Sets which half of a constant is to come at a tile.
-    pub(crate) fn set_half(&mut self, tile: usize, half: Option<HalfConstant>) {
-        if let Some(tile) = self.tiles.get_mut(tile) {
+    pub(crate) fn set_half(&mut self, tile: TileId, half: Option<HalfConstant>) {
+        if let Some(tile) = self.tiles.get_mut(tile.0) {
             tile.half = half;
         }
     }
 
     /// Whether a tile has done something in this cycle.
-    pub(crate) fn is_busy(&self, tile: usize) -> bool {
-        match self.tiles.get(tile) {
+    pub(crate) fn is_busy(&self, tile: TileId) -> bool {
+        match self.tiles.get(tile.0) {
             Some(tile) => tile.is_busy,
             None => true,
         }
     }
 
     /// Sets whether it has.
-    pub(crate) fn set_busy(&mut self, tile: usize, is_busy: bool) {
-        if let Some(tile) = self.tiles.get_mut(tile) {
+    pub(crate) fn set_busy(&mut self, tile: TileId, is_busy: bool) {
+        if let Some(tile) = self.tiles.get_mut(tile.0) {
             tile.is_busy = is_busy;
         }
     }
 
     /// A cell of a tile is free again.
-    pub(crate) fn free_cell(&mut self, tile: usize, cell: u16) -> Result<(), AllocError> {
-        match self.tiles.get_mut(tile) {
+    pub(crate) fn free_cell(&mut self, tile: TileId, cell: Cell) -> Result<(), AllocError> {
+        match self.tiles.get_mut(tile.0) {
             Some(tile) => tile.free_cell(cell),
             None => Ok(()),
         }
     }
 
     /// A tile executes an instruction.
-    pub(crate) fn emit(&mut self, tile: usize, ins: TileIns) -> Result<(), AllocError> {
+    pub(crate) fn emit(&mut self, tile: TileId, ins: TileIns) -> Result<(), AllocError> {
         self.has_acted = true;
-        if let Some(program) = self.programs.get_mut(tile) {
+        if let Some(program) = self.programs.get_mut(tile.0) {
             program.code.push(ins)?;
         }
         Ok(())
     }
 
     // One use more of a value at a tile.
-    fn add_use(&mut self, tile: usize, value: usize) {
+    fn add_use(&mut self, tile: TileId, value: ValueId) {
         let mut local = self.local(tile, value);
         local.uses = local.uses.saturating_add(1);
         self.set_local(tile, value, local);
     }
 
     // How often a value is used by operations at each tile.
-    fn count_users(&mut self, value: usize) {
-        for place in 0..self.task.user_count(value) {
-            if let Some(user) = self.task.user(value, place) {
-                let home = self.task.home(user);
-                self.add_use(home, value);
-            }
+    fn count_users(&mut self, value: ValueId) {
+        let graph = self.task.graph;
+        for user in graph.users(value) {
+            let home = self.task.homes.at(*user);
+            self.add_use(home, value);
         }
     }
 
     // How often a value is used at each tile: by operations, as outs, and by being sent.
-    fn count_uses(&mut self, value: usize) {
+    fn count_uses(&mut self, value: ValueId) {
         self.count_users(value);
-        let home = self.task.home(value);
+        let home = self.task.homes.at(value);
         for _ in 0..self.task.graph.outs_of(value).len() {
             self.add_use(home, value);
         }
         let is_input = self.task.graph.origin(value).is_input();
-        if !is_input && self.task.needers(value) != 0 {
+        if !is_input && !self.task.needers.at(value).is_empty() {
             self.add_use(home, value);
         }
     }
 
     // How many operands have to come.
-    fn count_missing(&mut self, value: usize) {
+    fn count_missing(&mut self, value: ValueId) {
         for operand in self.task.graph.origin(value).values() {
             if operand.is_some() {
                 let missing = self.missing.at(value).saturating_add(1);
@@ -329,8 +315,8 @@ impl<'a> Issue<'a> {
     }
 
     // The constants that a value needs at its tile.
-    fn want_constants(&mut self, value: usize) -> Result<(), AllocError> {
-        let tile = self.task.home(value);
+    fn want_constants(&mut self, value: ValueId) -> Result<(), AllocError> {
+        let tile = self.task.homes.at(value);
         if let Some(step) = self.task.step(value) {
             if let (Operand::Word(word), Some(_)) = (step.first(), step.second()) {
                 self.want(tile, word)?;
@@ -343,7 +329,7 @@ impl<'a> Issue<'a> {
     }
 
     // What is known of a value before the first cycle.
-    fn begin_value(&mut self, value: usize) -> Result<(), AllocError> {
+    fn begin_value(&mut self, value: ValueId) -> Result<(), AllocError> {
         self.count_uses(value);
         if self.task.graph.origin(value).is_input() {
             return Ok(());
@@ -355,9 +341,9 @@ impl<'a> Issue<'a> {
 
     // The constants that are outs.
     fn want_outs(&mut self) -> Result<(), AllocError> {
-        for out in 0..self.task.graph.outs().len() {
+        for out in (0..self.task.graph.outs().len()).map(OutId) {
             if let Some(Operand::Word(word)) = self.task.out(out) {
-                self.want(0, word)?;
+                self.want(TileId::CORNER, word)?;
             }
         }
         Ok(())
@@ -365,14 +351,14 @@ impl<'a> Issue<'a> {
 
     // What is known of all values before the first cycle.
     fn begin(&mut self) -> Result<(), AllocError> {
-        for value in 0..self.task.graph.count() {
+        for value in (0..self.task.graph.count()).map(ValueId) {
             self.begin_value(value)?;
         }
         self.want_outs()
     }
 
     // One operand of a value has come.
-    fn operand_came(&mut self, tile: usize, value: usize) -> Result<(), AllocError> {
+    fn operand_came(&mut self, tile: TileId, value: ValueId) -> Result<(), AllocError> {
         let missing = self.missing.at(value).saturating_sub(1);
         self.missing.put(value, missing);
         if missing == 0 {
@@ -383,11 +369,10 @@ impl<'a> Issue<'a> {
 
     /// A value has come to a tile: its users there have one operand more.
     pub(crate) fn came(&mut self, arrival: Arrival) -> Result<(), AllocError> {
-        for place in 0..self.task.user_count(arrival.value) {
-            if let Some(user) = self.task.user(arrival.value, place) {
-                if self.task.home(user) == arrival.tile {
-                    self.operand_came(arrival.tile, user)?;
-                }
+        let graph = self.task.graph;
+        for user in graph.users(arrival.value) {
+            if self.task.homes.at(*user) == arrival.tile {
+                self.operand_came(arrival.tile, *user)?;
             }
         }
         Ok(())

@@ -1,8 +1,7 @@
 //! What a switch does in a cycle.
 
 use crate::state::Issue;
-use crate::task::DIRS;
-use raw_frame::Word;
+use raw_frame::{Rank, TileId, Word};
 use raw_grid::{Dir, End, Net};
 use raw_switch_isa::{SwitchIns, SwitchSource, route_codes};
 use std::alloc::AllocError;
@@ -57,18 +56,18 @@ impl Crossing {
 
 impl Issue<'_> {
     // The word at the front of an input that has not been looked at.
-    fn front(&self, tile: usize, input: End, crossing: Crossing) -> Option<Word> {
+    fn front(&self, tile: TileId, input: End, crossing: Crossing) -> Option<Word> {
         if crossing.tried >> input.index() & 1 == 1 {
             return None;
         }
-        let wire = self.wires.input(tile, input.net, input.dir)?;
+        let wire = self.wires.input(tile, input)?;
         self.wires.word(wire, 0)
     }
 
     // The input with the word of the least rank that has not been looked at.
-    fn first_front(&self, tile: usize, crossing: Crossing) -> Option<(End, Word)> {
+    fn first_front(&self, tile: TileId, crossing: Crossing) -> Option<(End, Word)> {
         let mut first = None;
-        let mut least = usize::MAX;
+        let mut least = Rank::LAST;
         for input in End::ALL {
             if let Some(word) = self.front(tile, input, crossing) {
                 if word.rank < least || first.is_none() {
@@ -81,29 +80,29 @@ impl Issue<'_> {
     }
 
     // Takes the word of an input.
-    fn take_input(&mut self, tile: usize, input: End) {
-        if let Some(wire) = self.wires.input(tile, input.net, input.dir) {
+    fn take_input(&mut self, tile: TileId, input: End) {
+        if let Some(wire) = self.wires.input(tile, input) {
             self.wires.take(wire);
         }
     }
 
     // Whether an output is free for a word.
-    fn is_free(&self, tile: usize, output: End, crossing: Crossing) -> bool {
-        match self.wires.output(tile, output.net, output.dir) {
+    fn is_free(&self, tile: TileId, output: End, crossing: Crossing) -> bool {
+        match self.wires.output(tile, output) {
             Some(wire) => !crossing.is_used(output) && self.wires.has_room(wire),
             None => false,
         }
     }
 
     // Sends a word on an output.
-    fn send_on(&mut self, tile: usize, output: End, word: Word) {
-        if let Some(wire) = self.wires.output(tile, output.net, output.dir) {
+    fn send_on(&mut self, tile: TileId, output: End, word: Word) {
+        if let Some(wire) = self.wires.output(tile, output) {
             self.wires.send(wire, word);
         }
     }
 
     // Passes an out on towards the sink, if it is next there.
-    fn pass_out(&mut self, tile: usize, input: End, word: Word, crossing: &mut Crossing) {
+    fn pass_out(&mut self, tile: TileId, input: End, word: Word, crossing: &mut Crossing) {
         let passed = self.passed.at(tile);
         let output = End {
             net: Net::One,
@@ -119,7 +118,7 @@ impl Issue<'_> {
     }
 
     // Drops an input that nobody needs, at most one in a cycle.
-    fn drop_word(&mut self, tile: usize, input: End, crossing: &mut Crossing) {
+    fn drop_word(&mut self, tile: TileId, input: End, crossing: &mut Crossing) {
         if crossing.dropped.is_none() {
             crossing.dropped = Some(input.index());
             crossing.has_acted = true;
@@ -128,9 +127,9 @@ impl Issue<'_> {
     }
 
     // Whether a word can go on in all directions in which tiles need it.
-    fn can_go_on(&self, tile: usize, net: Net, word: Word, crossing: Crossing) -> bool {
-        for dir in DIRS {
-            let goes = self.task.share(tile, net, dir, word.tiles) != 0;
+    fn can_go_on(&self, tile: TileId, net: Net, word: Word, crossing: Crossing) -> bool {
+        for dir in Dir::ALL {
+            let goes = !self.task.share(tile, net, dir, word.tiles).is_empty();
             if goes && !self.is_free(tile, End { net, dir }, crossing) {
                 return false;
             }
@@ -139,12 +138,12 @@ impl Issue<'_> {
     }
 
     // A word goes on in all directions in which tiles need it.
-    fn go_on(&mut self, tile: usize, input: End, word: Word, crossing: &mut Crossing) {
+    fn go_on(&mut self, tile: TileId, input: End, word: Word, crossing: &mut Crossing) {
         self.take_input(tile, input);
         let net = input.net;
-        for dir in DIRS {
+        for dir in Dir::ALL {
             let tiles = self.task.share(tile, net, dir, word.tiles);
-            if tiles != 0 {
+            if !tiles.is_empty() {
                 self.send_on(tile, End { net, dir }, Word { tiles, ..word });
                 crossing.route(End { net, dir }, input.dir);
             }
@@ -152,10 +151,10 @@ impl Issue<'_> {
     }
 
     // Passes a word on, if it can go.
-    fn pass(&mut self, tile: usize, input: End, word: Word, crossing: &mut Crossing) {
+    fn pass(&mut self, tile: TileId, input: End, word: Word, crossing: &mut Crossing) {
         if word.out.is_some() {
             self.pass_out(tile, input, word, crossing);
-        } else if word.tiles == 0 {
+        } else if word.tiles.is_empty() {
             self.drop_word(tile, input, crossing);
         } else if self.can_go_on(tile, input.net, word, *crossing) {
             self.go_on(tile, input, word, crossing);
@@ -163,7 +162,7 @@ impl Issue<'_> {
     }
 
     // Passes on all words of a switch that can go.
-    fn cross(&mut self, tile: usize) -> Crossing {
+    fn cross(&mut self, tile: TileId) -> Crossing {
         let mut crossing = Crossing::new();
         for _ in 0..10 {
             let Some((input, word)) = self.first_front(tile, crossing) else {
@@ -176,13 +175,13 @@ impl Issue<'_> {
     }
 
     /// A switch passes on all words that can go, by their ranks.
-    pub(crate) fn switch_turn(&mut self, tile: usize) -> Result<(), AllocError> {
+    pub(crate) fn switch_turn(&mut self, tile: TileId) -> Result<(), AllocError> {
         let crossing = self.cross(tile);
         if !crossing.has_acted {
             return Ok(());
         }
         self.has_acted = true;
-        if let Some(program) = self.programs.get_mut(tile) {
+        if let Some(program) = self.programs.get_mut(tile.0) {
             program.switch.push(crossing.instruction())?;
         }
         Ok(())

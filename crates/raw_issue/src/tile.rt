@@ -1,6 +1,7 @@
 //! What is known of one tile.
 use raw_codegen::WORDS_IN_REACH;
-use raw_frame::{Held, ReadyList, Registers};
+use raw_frame::{Held, ReadyList, Register, Registers};
+use raw_selection::Cell;
 use std::alloc::{AllocError, Global};
 
 /// A constant that a tile needs, and how often yet.
@@ -13,31 +14,29 @@ pub(crate) struct Wanted {
 /// A register with the upper half of a constant, whose lower half is to come.
 #[derive(Clone, Copy)]
 pub(crate) struct HalfConstant {
-    pub(crate) register: u8,
+    pub(crate) register: Register,
     pub(crate) word: u32,
 }
 
 /// Where a value is at a tile, and how often it is still used there.
 #[derive(Clone, Copy)]
 pub(crate) struct ValuePlace {
-    /// Its register; 0 for none.
-    pub(crate) register: u8,
-    /// Its cell in memory, from 1; 0 for none.
-    pub(crate) cell: u16,
+    pub(crate) register: Option<Register>,
+    pub(crate) cell: Option<Cell>,
     pub(crate) uses: u16,
 }
 
 impl ValuePlace {
     /// Nowhere, and not used.
     pub(crate) const NONE: ValuePlace = ValuePlace {
-        register: 0,
-        cell: 0,
+        register: None,
+        cell: None,
         uses: 0,
     };
 
     /// Whether it is in a register or in memory.
     pub(crate) fn is_kept(self) -> bool {
-        self.register > 0 || self.cell > 0
+        self.register.is_some() || self.cell.is_some()
     }
 }
 
@@ -50,7 +49,7 @@ pub(crate) struct Tile {
     /// The values that have been made, and are to be sent.
     pub(crate) sends: ReadyList,
     /// Cells that are free again.
-    cells: Vec<u16>,
+    cells: Vec<Cell>,
     /// How many cells have been used.
     top: u16,
     constants: Vec<Wanted>,
@@ -75,19 +74,20 @@ impl Tile {
     }
 
     /// A cell that is free; none where all in reach are taken.
-    pub(crate) fn take_cell(&mut self) -> Option<u16> {
+    pub(crate) fn take_cell(&mut self) -> Option<Cell> {
         if let Some(cell) = self.cells.pop() {
             return Some(cell);
         }
         if usize::from(self.top) >= WORDS_IN_REACH {
             return None;
         }
+        let cell = Cell(self.top);
         self.top = self.top.saturating_add(1);
-        Some(self.top)
+        Some(cell)
     }
 
     /// A cell is free again.
-    pub(crate) fn free_cell(&mut self, cell: u16) -> Result<(), AllocError> {
+    pub(crate) fn free_cell(&mut self, cell: Cell) -> Result<(), AllocError> {
         self.cells.push(cell)?;
         Ok(())
     }

@@ -2,6 +2,7 @@
 use crate::fetching::FEW;
 use crate::making::{Destination, Move};
 use crate::state::Issue;
+use raw_frame::{Rank, TileId, ValueId};
 use raw_grid::Net;
 use std::alloc::AllocError;
 
@@ -13,7 +14,7 @@ const LOOKED_AT_IN_NEED: usize = 48;
 
 impl Issue<'_> {
     // Whether a plan leaves no register less than before.
-    fn keeps_room(&self, tile: usize, plan: Move) -> bool {
+    fn keeps_room(&self, tile: TileId, plan: Move) -> bool {
         match plan {
             Move::Make(making) => making.goal != Destination::Register
                 || self.frees(tile, making.step),
@@ -22,13 +23,13 @@ impl Issue<'_> {
     }
 
     // The plan for the operation at a place of those that are ready.
-    fn plan_at(&self, tile: usize, place: usize) -> Option<(usize, Option<Move>)> {
+    fn plan_at(&self, tile: TileId, place: usize) -> Option<(Rank, Option<Move>)> {
         let waiting = self.tile(tile)?.ready.at(place)?;
         Some((waiting.rank, self.plan(tile, waiting.value)))
     }
 
     // The best that a tile can do for an operation, with the rank of that.
-    fn best_plan(&self, tile: usize) -> Option<(usize, Move)> {
+    fn best_plan(&self, tile: TileId) -> Option<(Rank, Move)> {
         let is_tight = self.room(tile) <= FEW;
         let looked_at = if is_tight {
             LOOKED_AT_IN_NEED
@@ -51,7 +52,7 @@ impl Issue<'_> {
     }
 
     // The value that a tile sends in place of what it could do at a rank.
-    fn value_to_send(&self, tile: usize, best: Option<(usize, Move)>) -> Option<usize> {
+    fn value_to_send(&self, tile: TileId, best: Option<(Rank, Move)>) -> Option<ValueId> {
         let waiting = self.tile(tile)?.sends.at(0)?;
         let is_first = match best {
             Some((rank, _)) => waiting.rank <= rank || self.room(tile) <= FEW,
@@ -63,8 +64,8 @@ impl Issue<'_> {
     // Sends a value, if that has its turn.
     fn try_to_send(
         &mut self,
-        tile: usize,
-        best: Option<(usize, Move)>,
+        tile: TileId,
+        best: Option<(Rank, Move)>,
     ) -> Result<bool, AllocError> {
         let Some(value) = self.value_to_send(tile, best) else {
             return Ok(false);
@@ -76,10 +77,10 @@ impl Issue<'_> {
     }
 
     // Receives from a network that is full.
-    fn receive_full(&mut self, tile: usize) -> Result<bool, AllocError> {
+    fn receive_full(&mut self, tile: TileId) -> Result<bool, AllocError> {
         for net in [Net::One, Net::Two] {
             let is_full = self.wires.held(self.wires.to_tile(tile, net)) >= 4;
-            if is_full && self.receive(tile, net, 0)? {
+            if is_full && self.receive(tile, net, None)? {
                 return Ok(true);
             }
         }
@@ -87,15 +88,15 @@ impl Issue<'_> {
     }
 
     // Receives from the network on which more words wait.
-    fn receive_any(&mut self, tile: usize) -> Result<bool, AllocError> {
+    fn receive_any(&mut self, tile: TileId) -> Result<bool, AllocError> {
         let one = self.wires.held(self.wires.to_tile(tile, Net::One));
         let two = self.wires.held(self.wires.to_tile(tile, Net::Two));
         let net = if one >= two { Net::One } else { Net::Two };
-        self.receive(tile, net, 0)
+        self.receive(tile, net, None)
     }
 
     // What a tile does that has nothing half done.
-    fn act(&mut self, tile: usize) -> Result<bool, AllocError> {
+    fn act(&mut self, tile: TileId) -> Result<bool, AllocError> {
         let best = self.best_plan(tile);
         if self.try_to_send(tile, best)? {
             return Ok(true);
@@ -113,7 +114,7 @@ impl Issue<'_> {
     }
 
     /// A tile has its turn, unless it has sent an out.
-    pub(crate) fn take_turn(&mut self, tile: usize) -> Result<(), AllocError> {
+    pub(crate) fn take_turn(&mut self, tile: TileId) -> Result<(), AllocError> {
         if self.is_busy(tile) {
             return Ok(());
         }

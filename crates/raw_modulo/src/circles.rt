@@ -1,14 +1,16 @@
 //! Values that need one another.
 use crate::making::Window;
 use crate::schedule::Schedule;
+use raw_body::Position;
+use raw_frame::ValueId;
 use std::alloc::{AllocError, Global};
 
 // Values by falling heights: each behind those of the same row that it is made of.
 fn by_height(
     alloc: Global,
     schedule: &Schedule<'_>,
-    members: &[usize],
-) -> Result<Vec<usize>, AllocError> {
+    members: &[ValueId],
+) -> Result<Vec<ValueId>, AllocError> {
     let mut pairs = Vec::new(alloc);
     for value in members {
         let height = schedule.task.order.height(*value);
@@ -27,7 +29,7 @@ const MOST_STARTS: usize = 3;
 
 impl Schedule<'_> {
     // Whether a use comes behind what it uses, where both have their times.
-    fn is_behind(&self, value: usize, user: usize, back: usize) -> bool {
+    fn is_behind(&self, value: ValueId, user: ValueId, back: usize) -> bool {
         match (self.made.at(value), self.made.at(user)) {
             (Some(made), Some(used)) => {
                 used.saturating_add(back.saturating_mul(self.interval)) > made
@@ -37,12 +39,12 @@ impl Schedule<'_> {
     }
 
     // Whether a value is done in time for each of its users, and behind its operands.
-    fn fits(&self, value: usize) -> bool {
-        for place in 0..2 {
-            if let Some((operand, back)) = self.task.body.origin(value).value(place) {
-                let is_local = self.task.components.group(operand)
+    fn fits(&self, value: ValueId) -> bool {
+        for position in Position::BOTH {
+            if let Some(operand) = self.task.body.origin(value).value(position) {
+                let is_local = self.task.components.group(operand.value)
                     == self.task.components.group(value);
-                if is_local && !self.is_behind(operand, value, back) {
+                if is_local && !self.is_behind(operand.value, value, operand.back) {
                     return false;
                 }
             }
@@ -60,7 +62,7 @@ impl Schedule<'_> {
     }
 
     // Does an operation on a circle, not before a time.
-    fn make_on_circle(&mut self, value: usize, start: usize) -> bool {
+    fn make_on_circle(&mut self, value: ValueId, start: usize) -> bool {
         let from = self.earliest(value).max(start);
         let window = Window {
             from,
@@ -78,7 +80,7 @@ impl Schedule<'_> {
     }
 
     // Does all operations of a circle from a time on. False where one cannot be done; then none is.
-    fn make_from(&mut self, values: &[usize], start: usize) -> bool {
+    fn make_from(&mut self, values: &[ValueId], start: usize) -> bool {
         let mut done: usize = 0;
         for value in values {
             if !self.make_on_circle(*value, start) {
@@ -89,11 +91,7 @@ impl Schedule<'_> {
         if done == values.len() {
             return true;
         }
-        for place in (0..done).rev() {
-            if let Some(value) = values.get(place) {
-                self.take_back(*value);
-            }
-        }
+        self.take_all_back(values, done);
         false
     }
 
@@ -101,7 +99,7 @@ impl Schedule<'_> {
     pub(crate) fn make_circle(
         &mut self,
         alloc: Global,
-        members: &[usize],
+        members: &[ValueId],
         start: usize,
     ) -> Result<bool, AllocError> {
         let values = by_height(alloc, self, members)?;

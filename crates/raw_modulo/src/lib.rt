@@ -20,8 +20,10 @@ mod sending;
 mod task;
 
 pub use receiving::Coming;
-pub use routes::{Hop, Route};
+pub use routes::{Hop, Route, Shape};
 pub use running::{Rule, find_schedule};
 pub use schedule::Schedule;
 pub use sending::Message;
-pub use task::{Constant, Local, Task, needed_constant, operand_number, step};
+pub use task::{
+    Constant, ConstantId, Local, LocalId, OperandId, RowLocal, Task, named, needed_constant, step,
+};

@@ -1,8 +1,9 @@
 //! When operations are done.
 use crate::schedule::Schedule;
 use crate::sending::{Departure, Due};
-use crate::task::{operand_number, step};
-use raw_graph::Operand;
+use crate::task::{LocalId, OperandId, RowLocal, named, step};
+use raw_body::Position;
+use raw_frame::ValueId;
 
 /// When an operation may be done, and where it makes an out, when that is due.
 #[derive(Clone, Copy)]
@@ -19,35 +20,36 @@ type Direct = [bool; 2];
 const CHOICES: [Direct; 4] = [[true, true], [true, false], [false, true], [false, false]];
 
 // Whether an operand is among some.
-fn is_among(direct: Direct, place: usize) -> bool {
-    direct.get(place).copied().unwrap_or(false)
+fn is_among(direct: Direct, position: Position) -> bool {
+    direct.get(position.index()).copied().unwrap_or(false)
 }
 
 impl Schedule<'_> {
     // Whether the only user of a local at its tile may take it from the queue.
-    fn may_take(&self, value: usize, place: usize) -> bool {
-        match self.task.operand(value, place) {
-            Some((local, _)) => {
-                let is_used_once = self.task.local(local).uses == 1;
-                is_used_once && self.comings.at(local).is_some() && !self.task.is_in_memory(local)
+    fn may_take(&self, value: ValueId, position: Position) -> bool {
+        match self.task.operand(value, position) {
+            Some(RowLocal { local, .. }) => {
+                let is_used_once = self.task.locals.at(local).uses == 1;
+                is_used_once && self.comings.at(local).is_some() && !self.task.in_memory.at(local)
             }
             None => false,
         }
     }
 
     // The operands that may be taken from queues.
-    fn takable(&self, value: usize) -> Direct {
-        [self.may_take(value, 0), self.may_take(value, 1)]
+    fn takable(&self, value: ValueId) -> Direct {
+        let first = self.may_take(value, Position::First);
+        [first, self.may_take(value, Position::Second)]
     }
 
     // When a local can be used, where it is taken from its queue or not.
-    fn usable(&self, local: usize, is_direct: bool) -> usize {
+    fn usable(&self, local: LocalId, is_direct: bool) -> usize {
         if let Some(coming) = self.comings.at(local) {
             if is_direct {
                 return coming.arrival.saturating_add(1);
             }
         }
-        if self.task.is_in_memory(local) {
+        if self.task.in_memory.at(local) {
             return match self.stored.at(local) {
                 Some(stored) => stored.saturating_add(2),
                 None => 0,
@@ -60,20 +62,20 @@ impl Schedule<'_> {
     }
 
     // When a local that is made at its tile can be used.
-    fn made_local(&self, local: usize) -> usize {
-        match self.made.at(self.task.local(local).value) {
+    fn made_local(&self, local: LocalId) -> usize {
+        match self.made.at(self.task.locals.at(local).value) {
             Some(made) => made.saturating_add(1),
             None => 0,
         }
     }
 
     // When the operands of an operation can be used, where these are taken from queues.
-    fn ready_with(&self, value: usize, direct: Direct) -> usize {
+    fn ready_with(&self, value: ValueId, direct: Direct) -> usize {
         let mut ready = 0;
-        for place in 0..2 {
-            if let Some((local, back)) = self.task.operand(value, place) {
+        for position in Position::BOTH {
+            if let Some(RowLocal { local, back }) = self.task.operand(value, position) {
                 let earlier = back.saturating_mul(self.interval);
-                let usable = self.usable(local, is_among(direct, place));
+                let usable = self.usable(local, is_among(direct, position));
                 ready = usable.saturating_sub(earlier).max(ready);
             }
         }
@@ -81,27 +83,27 @@ impl Schedule<'_> {
     }
 
     /// When an operation can be done at the earliest.
-    pub(crate) fn earliest(&self, value: usize) -> usize {
+    pub(crate) fn earliest(&self, value: ValueId) -> usize {
         self.ready_with(value, self.takable(value))
     }
 
     // The half of a cycle in which an operation reads an operand.
-    fn half(&self, value: usize, place: usize) -> usize {
+    fn half(&self, value: ValueId, position: Position) -> usize {
         match step(self.task.body.origin(value)) {
-            Some(step) => usize::from(step.first() != Operand::Value(place)),
+            Some(step) => usize::from(step.first() != named(position)),
             None => 0,
         }
     }
 
     // Takes operands from their queues.
-    fn take_operands(&mut self, value: usize, direct: Direct, time: usize) -> bool {
-        for place in 0..2 {
-            if is_among(direct, place) {
-                if let Some((local, back)) = self.task.operand(value, place) {
+    fn take_operands(&mut self, value: ValueId, direct: Direct, time: usize) -> bool {
+        for position in Position::BOTH {
+            if is_among(direct, position) {
+                if let Some(RowLocal { local, back }) = self.task.operand(value, position) {
                     let time = time.saturating_add(back.saturating_mul(self.interval));
                     let half = time
                         .saturating_mul(2)
-                        .saturating_add(self.half(value, place));
+                        .saturating_add(self.half(value, position));
                     if !self.take_directly(local, half) {
                         return false;
                     }
@@ -112,22 +114,22 @@ impl Schedule<'_> {
     }
 
     // Loads the constant of an operation, if that is not in a register.
-    fn load_constant(&mut self, value: usize, time: usize) -> bool {
+    fn load_constant(&mut self, value: ValueId, time: usize) -> bool {
         if self.task.loaded_constant(value).is_none() {
             return true;
         }
-        let tile = self.task.home(value);
+        let tile = self.task.homes.at(value);
         let loaded = self.take_before(tile, time, 0);
         self.constants.put(value, loaded);
         loaded.is_some()
     }
 
     // Loads an operand from memory.
-    fn load_operand(&mut self, value: usize, place: usize, time: usize) -> bool {
-        let Some((local, back)) = self.task.operand(value, place) else {
+    fn load_operand(&mut self, value: ValueId, position: Position, time: usize) -> bool {
+        let Some(RowLocal { local, back }) = self.task.operand(value, position) else {
             return true;
         };
-        if !self.task.is_in_memory(local) {
+        if !self.task.in_memory.at(local) {
             return true;
         }
         let Some(stored) = self.stored.at(local) else {
@@ -135,26 +137,26 @@ impl Schedule<'_> {
         };
         let earlier = back.saturating_mul(self.interval);
         let least = stored.saturating_add(1).saturating_sub(earlier);
-        let tile = self.task.home(value);
+        let tile = self.task.homes.at(value);
         let loaded = self.take_before(tile, time, least);
-        self.loaded.put(operand_number(value, place), loaded);
+        self.loaded.put(OperandId::of(value, position), loaded);
         loaded.is_some()
     }
 
     // Stores a value that is kept in memory at its home.
-    fn store(&mut self, value: usize, time: usize) -> bool {
+    fn store(&mut self, value: ValueId, time: usize) -> bool {
         let local = self.task.first_local(value);
-        if !self.task.is_in_memory(local) || self.task.local(local).comes {
+        if !self.task.in_memory.at(local) || self.task.locals.at(local).comes {
             return true;
         }
-        let tile = self.task.home(value);
+        let tile = self.task.homes.at(value);
         let stored = self.take_behind(tile, time);
         self.stored.put(local, stored);
         stored.is_some()
     }
 
     // Sends what an operation makes in a cycle.
-    fn send_made(&mut self, value: usize, time: usize, due: Option<Due>) -> bool {
+    fn send_made(&mut self, value: ValueId, time: usize, due: Option<Due>) -> bool {
         self.send(Departure {
             value,
             pushed: Some(time),
@@ -165,8 +167,8 @@ impl Schedule<'_> {
     }
 
     // Sends a value by an instruction of its own in a cycle, if that is free.
-    fn try_to_send(&mut self, value: usize, time: usize) -> bool {
-        let tile = self.task.home(value);
+    fn try_to_send(&mut self, value: ValueId, time: usize) -> bool {
+        let tile = self.task.homes.at(value);
         if !self.tiles.is_free(tile, time) {
             return false;
         }
@@ -181,7 +183,7 @@ impl Schedule<'_> {
     }
 
     // The same, as soon as may be.
-    fn send_later(&mut self, value: usize, time: usize) -> bool {
+    fn send_later(&mut self, value: ValueId, time: usize) -> bool {
         for step in 1..self.interval {
             if self.left == 0 {
                 return false;
@@ -194,7 +196,7 @@ impl Schedule<'_> {
     }
 
     // Sends what an operation makes to all that need it elsewhere.
-    fn pass_on(&mut self, value: usize, time: usize, due: Option<Due>) -> bool {
+    fn pass_on(&mut self, value: ValueId, time: usize, due: Option<Due>) -> bool {
         if self.task.is_sent_at_once(value) {
             self.send_made(value, time, due)
         } else if self.task.is_brought(value) {
@@ -205,18 +207,18 @@ impl Schedule<'_> {
     }
 
     // All that an operation in a cycle needs.
-    fn provide(&mut self, value: usize, direct: Direct, time: usize, due: Option<Due>) -> bool {
+    fn provide(&mut self, value: ValueId, direct: Direct, time: usize, due: Option<Due>) -> bool {
         self.take_operands(value, direct, time)
             && self.load_constant(value, time)
-            && self.load_operand(value, 0, time)
-            && self.load_operand(value, 1, time)
+            && self.load_operand(value, Position::First, time)
+            && self.load_operand(value, Position::Second, time)
             && self.store(value, time)
             && self.pass_on(value, time, due)
     }
 
     // Does an operation in a cycle, if that is free and all that it needs.
-    fn try_at(&mut self, value: usize, direct: Direct, time: usize, due: Option<Due>) -> bool {
-        let tile = self.task.home(value);
+    fn try_at(&mut self, value: ValueId, direct: Direct, time: usize, due: Option<Due>) -> bool {
+        let tile = self.task.homes.at(value);
         self.left = self.left.saturating_sub(1);
         if !self.tiles.is_free(tile, time) {
             return false;
@@ -231,31 +233,31 @@ impl Schedule<'_> {
     }
 
     // What was loaded for an operand is loaded no more, and it is not taken from its queue.
-    fn unload(&mut self, value: usize, place: usize) {
-        let number = operand_number(value, place);
-        let (tile, loaded) = (self.task.home(value), self.loaded.at(number));
+    fn unload(&mut self, value: ValueId, position: Position) {
+        let operand = OperandId::of(value, position);
+        let (tile, loaded) = (self.task.homes.at(value), self.loaded.at(operand));
         self.give_back(tile, loaded);
-        self.loaded.put(number, None);
-        if let Some((local, _)) = self.task.operand(value, place) {
-            if self.task.local(local).uses == 1 {
+        self.loaded.put(operand, None);
+        if let Some(RowLocal { local, .. }) = self.task.operand(value, position) {
+            if self.task.locals.at(local).uses == 1 {
                 self.untake(local);
             }
         }
     }
 
     // What was stored of a value that is made is stored no more.
-    fn unstore(&mut self, value: usize) {
+    fn unstore(&mut self, value: ValueId) {
         let local = self.task.first_local(value);
-        if !self.task.local(local).comes {
-            let (tile, stored) = (self.task.home(value), self.stored.at(local));
+        if !self.task.locals.at(local).comes {
+            let (tile, stored) = (self.task.homes.at(value), self.stored.at(local));
             self.give_back(tile, stored);
             self.stored.put(local, None);
         }
     }
 
     // An operation is not done. Words that it took from queues are in none.
-    fn unmake(&mut self, value: usize) {
-        let tile = self.task.home(value);
+    fn unmake(&mut self, value: ValueId) {
+        let tile = self.task.homes.at(value);
         self.unsend(value);
         let sent = self.sent.at(value);
         self.give_back(tile, sent);
@@ -264,18 +266,18 @@ impl Schedule<'_> {
         let loaded = self.constants.at(value);
         self.give_back(tile, loaded);
         self.constants.put(value, None);
-        self.unload(value, 1);
-        self.unload(value, 0);
+        self.unload(value, Position::Second);
+        self.unload(value, Position::First);
         let made = self.made.at(value);
         self.give_back(tile, made);
         self.made.put(value, None);
     }
 
     // Words that are to be taken from queues are received no more by instructions of their own.
-    fn release_operands(&mut self, value: usize, direct: Direct) {
-        for place in 0..2 {
-            if is_among(direct, place) {
-                if let Some((local, _)) = self.task.operand(value, place) {
+    fn release_operands(&mut self, value: ValueId, direct: Direct) {
+        for position in Position::BOTH {
+            if is_among(direct, position) {
+                if let Some(RowLocal { local, .. }) = self.task.operand(value, position) {
                     self.release(local);
                 }
             }
@@ -283,10 +285,10 @@ impl Schedule<'_> {
     }
 
     // They are again.
-    fn restore_operands(&mut self, value: usize, direct: Direct) {
-        for place in 0..2 {
-            if is_among(direct, place) {
-                if let Some((local, _)) = self.task.operand(value, place) {
+    fn restore_operands(&mut self, value: ValueId, direct: Direct) {
+        for position in Position::BOTH {
+            if is_among(direct, position) {
+                if let Some(RowLocal { local, .. }) = self.task.operand(value, position) {
                     self.restore(local);
                 }
             }
@@ -294,7 +296,7 @@ impl Schedule<'_> {
     }
 
     // Does an operation at the first cycle where it can be done with these operands from queues.
-    fn make_with(&mut self, value: usize, direct: Direct, window: Window) -> bool {
+    fn make_with(&mut self, value: ValueId, direct: Direct, window: Window) -> bool {
         let first = self.ready_with(value, direct).max(window.from);
         let last = first.saturating_add(self.interval.saturating_mul(2));
         self.release_operands(value, direct);
@@ -311,7 +313,7 @@ impl Schedule<'_> {
     }
 
     /// Does an operation, with as many operands from queues as may be.
-    pub(crate) fn make(&mut self, value: usize, window: Window) -> bool {
+    pub(crate) fn make(&mut self, value: ValueId, window: Window) -> bool {
         let [first, second] = self.takable(value);
         for direct in CHOICES {
             let [one, two] = direct;
@@ -323,9 +325,9 @@ impl Schedule<'_> {
     }
 
     // Whether an operand is taken from its queue.
-    fn is_taken(&self, value: usize, place: usize) -> bool {
-        match self.task.operand(value, place) {
-            Some((local, _)) => match self.comings.at(local) {
+    fn is_taken(&self, value: ValueId, position: Position) -> bool {
+        match self.task.operand(value, position) {
+            Some(RowLocal { local, .. }) => match self.comings.at(local) {
                 Some(coming) => coming.taken.is_some(),
                 None => false,
             },
@@ -334,9 +336,10 @@ impl Schedule<'_> {
     }
 
     /// An operation is not done. All is as it was before it.
-    pub(crate) fn take_back(&mut self, value: usize) {
-        let direct = [self.is_taken(value, 0), self.is_taken(value, 1)];
+    pub(crate) fn take_back(&mut self, value: ValueId) {
+        let first = self.is_taken(value, Position::First);
+        let second = self.is_taken(value, Position::Second);
         self.unmake(value);
-        self.restore_operands(value, direct);
+        self.restore_operands(value, [first, second]);
     }
 }

@@ -1,5 +1,6 @@
 //! Cycles that are marked.
 use crate::board::slot;
+use crate::schedule::Lane;
 use raw_frame::Table;
 use std::alloc::{AllocError, Global};
 
@@ -9,7 +10,7 @@ use std::alloc::{AllocError, Global};
 pub(crate) struct Marks {
     interval: usize,
     /// 64 cycles in a word.
-    words: Table<u64>,
+    words: Table<usize, u64>,
 }
 
 impl Marks {
@@ -28,9 +29,9 @@ impl Marks {
     }
 
     /// Marks a cycle of a lane, or takes its mark away.
-    pub(crate) fn put(&mut self, lane: usize, time: usize, is_marked: bool) {
+    pub(crate) fn put(&mut self, lane: Lane, time: usize, is_marked: bool) {
         let at = slot(time, self.interval);
-        let place = lane.saturating_mul(self.length()).saturating_add(at / 64);
+        let place = lane.0.saturating_mul(self.length()).saturating_add(at / 64);
         let bit = 1 << (at % 64);
         let word = self.words.at(place);
         self.words
@@ -38,9 +39,9 @@ impl Marks {
     }
 
     /// How many cycles behind a cycle the next one with a mark is, modulo the interval.
-    pub(crate) fn next(&self, lane: usize, time: usize) -> Option<usize> {
+    pub(crate) fn next(&self, lane: Lane, time: usize) -> Option<usize> {
         let length = self.length();
-        let first = lane.saturating_mul(length);
+        let first = lane.0.saturating_mul(length);
         let at = slot(time, self.interval);
         let mut mask = u64::MAX << (at % 64);
         let mut place = at / 64;

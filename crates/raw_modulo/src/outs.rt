@@ -2,18 +2,24 @@
 use crate::making::Window;
 use crate::schedule::Schedule;
 use crate::sending::Due;
+use raw_body::SinkId;
+use raw_frame::ValueId;
 use std::alloc::{AllocError, Global};
 
 /// So many starts are tried for the outs of a sink.
 const MOST_TRIES: usize = 200;
 
 // The values of the outs of a sink, in their order.
-fn outs_of(alloc: Global, schedule: &Schedule<'_>, port: usize) -> Result<Vec<usize>, AllocError> {
+fn outs_of(
+    alloc: Global,
+    schedule: &Schedule<'_>,
+    sink: SinkId,
+) -> Result<Vec<ValueId>, AllocError> {
     let mut values = Vec::new(alloc);
     let task = schedule.task;
     let body = task.body;
-    for out in body.outs() {
-        if out.port == port {
+    for out in &body.outs {
+        if out.sink == sink {
             values.push(out.value)?;
         }
     }
@@ -22,30 +28,33 @@ fn outs_of(alloc: Global, schedule: &Schedule<'_>, port: usize) -> Result<Vec<us
 
 impl Schedule<'_> {
     // How many links lie between the home of an out and its sink.
-    fn way(&self, value: usize, port: usize) -> usize {
-        let sink = self.task.site.sink_tile(port);
-        self.task.site.part.distance(self.task.home(value), sink)
+    fn way(&self, value: ValueId, sink: SinkId) -> usize {
+        let tile = self.task.site.sink_tile(sink);
+        self.task
+            .site
+            .part
+            .distance(self.task.homes.at(value), tile)
     }
 
     // When an out can be done at the earliest.
-    fn out_from(&self, value: usize) -> usize {
+    fn out_from(&self, value: ValueId) -> usize {
         self.earliest(value).max(self.interval)
     }
 
     // When an out can come to its sink at the earliest.
-    fn out_ready(&self, value: usize, port: usize) -> usize {
-        let way = self.way(value, port);
+    fn out_ready(&self, value: ValueId, sink: SinkId) -> usize {
+        let way = self.way(value, sink);
         self.out_from(value).saturating_add(1).saturating_add(way)
     }
 
     // When the first out of a sink comes there at the earliest, so that all can come within an interval.
-    fn first_out(&self, values: &[usize], port: usize) -> usize {
+    fn first_out(&self, values: &[ValueId], sink: SinkId) -> usize {
         let mut last = 0;
         for value in values {
-            last = self.out_ready(*value, port).max(last);
+            last = self.out_ready(*value, sink).max(last);
         }
         let first = match values.first() {
-            Some(value) => self.out_ready(*value, port),
+            Some(value) => self.out_ready(*value, sink),
             None => 0,
         };
         last.saturating_add(1)
@@ -54,8 +63,8 @@ impl Schedule<'_> {
     }
 
     // Does an out, so that it comes to its sink when it is due.
-    fn make_out(&mut self, value: usize, port: usize, due: Due) -> Option<usize> {
-        let way = self.way(value, port).saturating_add(3);
+    fn make_out(&mut self, value: ValueId, sink: SinkId, due: Due) -> Option<usize> {
+        let way = self.way(value, sink).saturating_add(3);
         let from = self.out_from(value).max(due.from.saturating_sub(way));
         let until = from.saturating_add(self.interval.saturating_mul(2));
         let due = Some(due);
@@ -70,11 +79,11 @@ impl Schedule<'_> {
     // could not, none is.
     fn make_outs_from(
         &mut self,
-        values: &[usize],
-        port: usize,
+        values: &[ValueId],
+        sink: SinkId,
         start: usize,
     ) -> (Option<usize>, bool) {
-        let (_, net) = self.task.site.sink_end(port);
+        let (_, net) = self.task.site.sink_end(sink);
         let mut first = None;
         let mut due = Due {
             from: start,
@@ -83,7 +92,7 @@ impl Schedule<'_> {
         };
         let mut done: usize = 0;
         for value in values {
-            let Some(time) = self.make_out(*value, port, due) else {
+            let Some(time) = self.make_out(*value, sink, due) else {
                 break;
             };
             done = done.saturating_add(1);
@@ -93,13 +102,13 @@ impl Schedule<'_> {
             due.until = begin.saturating_add(self.interval).saturating_sub(1);
         }
         if done < values.len() {
-            self.take_outs_back(values, done);
+            self.take_all_back(values, done);
         }
         (first, done == values.len())
     }
 
-    // The first of some outs are not done.
-    fn take_outs_back(&mut self, values: &[usize], done: usize) {
+    /// The first of some operations are not done.
+    pub(crate) fn take_all_back(&mut self, values: &[ValueId], done: usize) {
         for place in (0..done).rev() {
             if let Some(value) = values.get(place) {
                 self.take_back(*value);
@@ -108,14 +117,14 @@ impl Schedule<'_> {
     }
 
     /// Does the outs of a sink.
-    pub(crate) fn make_outs(&mut self, alloc: Global, port: usize) -> Result<bool, AllocError> {
-        let values = outs_of(alloc, self, port)?;
-        let mut start = self.first_out(&values, port);
+    pub(crate) fn make_outs(&mut self, alloc: Global, sink: SinkId) -> Result<bool, AllocError> {
+        let values = outs_of(alloc, self, sink)?;
+        let mut start = self.first_out(&values, sink);
         for _ in 0..self.interval.saturating_mul(2).min(MOST_TRIES) {
             if self.left == 0 {
                 return Ok(false);
             }
-            let (first, is_done) = self.make_outs_from(&values, port, start);
+            let (first, is_done) = self.make_outs_from(&values, sink, start);
             if is_done {
                 return Ok(true);
             }

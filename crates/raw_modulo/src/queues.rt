@@ -1,6 +1,7 @@
 //! Words in queues.
 use crate::board::slot;
 use crate::marks::Marks;
+use crate::schedule::Lane;
 use raw_frame::Table;
 use raw_model::limits::DEFAULT_DEPTH;
 use std::alloc::{AllocError, Global};
@@ -17,12 +18,12 @@ pub(crate) struct Stay {
 #[derive(Drop)]
 pub(crate) struct Queues {
     interval: usize,
-    stays: Table<Option<Stay>>,
+    stays: Table<usize, Option<Stay>>,
     /// When words come to each queue, and the same backwards from the end of the interval.
     onward: Marks,
     backward: Marks,
     /// How many words are in each queue in each cycle, modulo the interval.
-    loads: Table<u8>,
+    loads: Table<usize, u8>,
 }
 
 /// So many intervals a word stays in a queue at most.
@@ -62,8 +63,8 @@ impl Queues {
     }
 
     // The place of a cycle of a queue.
-    fn place(&self, queue: usize, time: usize) -> usize {
-        let first = queue.saturating_mul(self.interval);
+    fn place(&self, queue: Lane, time: usize) -> usize {
+        let first = queue.0.saturating_mul(self.interval);
         first.saturating_add(slot(time, self.interval))
     }
 
@@ -73,14 +74,14 @@ impl Queues {
     }
 
     // Marks a cycle in which a word comes to a queue, or takes the mark away.
-    fn mark(&mut self, queue: usize, time: usize, is_marked: bool) {
+    fn mark(&mut self, queue: Lane, time: usize, is_marked: bool) {
         let mirrored = self.mirrored(time);
         self.onward.put(queue, time, is_marked);
         self.backward.put(queue, mirrored, is_marked);
     }
 
     // The stay of the next word that comes to a queue from a cycle on, or before it.
-    fn neighbour(&self, queue: usize, time: usize, is_later: bool) -> Option<Stay> {
+    fn neighbour(&self, queue: Lane, time: usize, is_later: bool) -> Option<Stay> {
         let at = if is_later {
             time.saturating_add(self.onward.next(queue, time)?)
         } else {
@@ -92,7 +93,7 @@ impl Queues {
 
     /// When a word may go that comes in a half cycle: behind the one that comes before it, and before the one that comes
     /// behind it. None where another one comes in this cycle.
-    pub(crate) fn bounds(&self, queue: usize, from: usize) -> Option<Bounds> {
+    pub(crate) fn bounds(&self, queue: Lane, from: usize) -> Option<Bounds> {
         let round = self.interval.saturating_mul(2);
         let (Some(before), Some(behind)) = (
             self.neighbour(queue, from / 2, false),
@@ -117,7 +118,7 @@ impl Queues {
     }
 
     // Whether a word keeps the order with all others.
-    fn keeps_order(&self, queue: usize, stay: Stay) -> bool {
+    fn keeps_order(&self, queue: Lane, stay: Stay) -> bool {
         match self.bounds(queue, stay.from) {
             Some(bounds) => bounds.least <= stay.until && stay.until <= bounds.most,
             None => false,
@@ -125,7 +126,7 @@ impl Queues {
     }
 
     // Counts a word in each cycle of its stay, if there is room in all.
-    fn count(&mut self, queue: usize, stay: Stay) -> bool {
+    fn count(&mut self, queue: Lane, stay: Stay) -> bool {
         for time in stay.from / 2..=stay.until / 2 {
             let place = self.place(queue, time);
             let load = self.loads.at(place).saturating_add(1);
@@ -140,7 +141,7 @@ impl Queues {
     }
 
     // Counts it no more.
-    fn discount(&mut self, queue: usize, stay: Stay) {
+    fn discount(&mut self, queue: Lane, stay: Stay) {
         for time in stay.from / 2..=stay.until / 2 {
             let place = self.place(queue, time);
             let load = self.loads.at(place).saturating_sub(1);
@@ -157,7 +158,7 @@ impl Queues {
     }
 
     /// A word more, where order and room allow it.
-    pub(crate) fn add(&mut self, queue: usize, stay: Stay) -> bool {
+    pub(crate) fn add(&mut self, queue: Lane, stay: Stay) -> bool {
         if !self.is_short(stay) || !self.keeps_order(queue, stay) {
             return false;
         }
@@ -171,7 +172,7 @@ impl Queues {
     }
 
     /// A word less.
-    pub(crate) fn remove(&mut self, queue: usize, stay: Stay) {
+    pub(crate) fn remove(&mut self, queue: Lane, stay: Stay) {
         self.discount(queue, stay);
         let place = self.place(queue, stay.from / 2);
         self.stays.put(place, None);

@@ -1,4 +1,5 @@
 //! Whose turn it is.
+use raw_body::GroupId;
 use std::alloc::{AllocError, Global};
 
 /// The turn of a group of values: the least goes first.
@@ -6,7 +7,7 @@ use std::alloc::{AllocError, Global};
 pub(crate) struct Turn {
     pub(crate) first: usize,
     pub(crate) second: usize,
-    pub(crate) group: usize,
+    pub(crate) group: GroupId,
 }
 
 /// Groups whose operands have their times, by their turns.

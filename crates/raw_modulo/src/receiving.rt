@@ -1,6 +1,7 @@
 //! How words come to tiles.
 use crate::queues::Stay;
-use crate::schedule::{Schedule, lane};
+use crate::schedule::{Lane, Schedule};
+use crate::task::LocalId;
 use raw_grid::Net;
 
 /// How a local comes from the network.
@@ -29,26 +30,26 @@ impl Coming {
 
 impl Schedule<'_> {
     // A word stands in the queue, and is received.
-    fn add_coming(&mut self, local: usize, coming: Coming) -> bool {
-        let tile = self.task.local(local).tile;
+    fn add_coming(&mut self, local: LocalId, coming: Coming) -> bool {
+        let tile = self.task.locals.at(local).tile;
         if !self.tiles.is_free(tile, coming.received) {
             return false;
         }
-        if !self.inward.add(lane(tile, coming.net), coming.stay()) {
+        if !self.inward.add(Lane::of(tile, coming.net), coming.stay()) {
             return false;
         }
         self.tiles.take(tile, coming.received);
         self.comings.put(local, Some(coming));
-        if self.task.is_in_memory(local) {
+        if self.task.in_memory.at(local) {
             self.stored.put(local, Some(coming.received));
         }
         true
     }
 
     /// A word that comes to a tile in a cycle is received as soon as may be.
-    pub(crate) fn receive(&mut self, local: usize, net: Net, arrival: usize) -> bool {
-        let tile = self.task.local(local).tile;
-        let queue = lane(tile, net);
+    pub(crate) fn receive(&mut self, local: LocalId, net: Net, arrival: usize) -> bool {
+        let tile = self.task.locals.at(local).tile;
+        let queue = Lane::of(tile, net);
         let Some(bounds) = self.inward.bounds(queue, arrival.saturating_mul(2)) else {
             return false;
         };
@@ -75,21 +76,22 @@ impl Schedule<'_> {
     }
 
     /// A word does not come.
-    pub(crate) fn unreceive(&mut self, local: usize) {
+    pub(crate) fn unreceive(&mut self, local: LocalId) {
         if let Some(coming) = self.comings.at(local) {
             self.release(local);
             self.comings.put(local, None);
-            if self.task.local(local).comes && coming.taken.is_none() {
+            if self.task.locals.at(local).comes && coming.taken.is_none() {
                 self.stored.put(local, None);
             }
         }
     }
 
     /// A word is not taken from its queue as it was.
-    pub(crate) fn release(&mut self, local: usize) {
+    pub(crate) fn release(&mut self, local: LocalId) {
         if let Some(coming) = self.comings.at(local) {
-            let tile = self.task.local(local).tile;
-            self.inward.remove(lane(tile, coming.net), coming.stay());
+            let tile = self.task.locals.at(local).tile;
+            self.inward
+                .remove(Lane::of(tile, coming.net), coming.stay());
             if coming.taken.is_none() {
                 self.tiles.free(tile, coming.received);
             }
@@ -97,7 +99,7 @@ impl Schedule<'_> {
     }
 
     /// A word is received by an instruction of its own, as it was at first.
-    pub(crate) fn restore(&mut self, local: usize) {
+    pub(crate) fn restore(&mut self, local: LocalId) {
         if let Some(coming) = self.comings.at(local) {
             let coming = Coming {
                 taken: None,
@@ -108,7 +110,7 @@ impl Schedule<'_> {
     }
 
     /// The user of a word takes it from the queue in a half cycle. False where order or room do not allow it.
-    pub(crate) fn take_directly(&mut self, local: usize, taken: usize) -> bool {
+    pub(crate) fn take_directly(&mut self, local: LocalId, taken: usize) -> bool {
         let Some(coming) = self.comings.at(local) else {
             return false;
         };
@@ -116,8 +118,10 @@ impl Schedule<'_> {
             taken: Some(taken),
             ..coming
         };
-        let tile = self.task.local(local).tile;
-        if taken / 2 <= coming.arrival || !self.inward.add(lane(tile, coming.net), coming.stay()) {
+        let tile = self.task.locals.at(local).tile;
+        if taken / 2 <= coming.arrival
+            || !self.inward.add(Lane::of(tile, coming.net), coming.stay())
+        {
             return false;
         }
         self.comings.put(local, Some(coming));
@@ -125,7 +129,7 @@ impl Schedule<'_> {
     }
 
     /// It does not.
-    pub(crate) fn untake(&mut self, local: usize) {
+    pub(crate) fn untake(&mut self, local: LocalId) {
         if let Some(coming) = self.comings.at(local) {
             if coming.taken.is_some() {
                 self.release(local);

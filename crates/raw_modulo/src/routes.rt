@@ -1,17 +1,26 @@
 //! The ways of words.
 use raw_body::Site;
-use raw_frame::Part;
+use raw_frame::{Part, TileId};
 use raw_grid::{Dir, Side};
 use std::alloc::{AllocError, Global};
 
 /// A word passes a switch.
 #[derive(Clone, Copy, PartialEq, Eq)]
 pub struct Hop {
-    pub tile: usize,
+    pub tile: TileId,
     pub from: Dir,
     pub to: Dir,
     /// How many cycles after its first hop.
     pub after: usize,
+}
+
+/// How a word comes to other rows and columns.
+#[derive(Clone, Copy, PartialEq, Eq)]
+pub enum Shape {
+    /// Along its row first.
+    RowFirst,
+    /// Along its column first.
+    ColumnFirst,
 }
 
 /// The way of a word from one tile or port to all that need it. It goes on without stop.
@@ -34,19 +43,19 @@ impl Route {
 /// From where a word starts: a tile and the direction from which its switch takes it.
 #[derive(Clone, Copy)]
 pub(crate) struct Root {
-    pub(crate) tile: usize,
+    pub(crate) tile: TileId,
     pub(crate) from: Dir,
 }
 
 /// Where it goes: a tile and the direction in which its switch sends it.
 #[derive(Clone, Copy)]
 pub(crate) struct Goal {
-    pub(crate) tile: usize,
+    pub(crate) tile: TileId,
     pub(crate) to: Dir,
 }
 
 // The side to which a word goes on along its row.
-fn along_row(part: Part, at: usize, goal: usize) -> Option<Side> {
+fn along_row(part: Part, at: TileId, goal: TileId) -> Option<Side> {
     if part.column(at) < part.column(goal) {
         Some(Side::E)
     } else if part.column(at) > part.column(goal) {
@@ -57,7 +66,7 @@ fn along_row(part: Part, at: usize, goal: usize) -> Option<Side> {
 }
 
 // The same along its column.
-fn along_column(part: Part, at: usize, goal: usize) -> Option<Side> {
+fn along_column(part: Part, at: TileId, goal: TileId) -> Option<Side> {
     if part.row(at) < part.row(goal) {
         Some(Side::S)
     } else if part.row(at) > part.row(goal) {
@@ -67,12 +76,11 @@ fn along_column(part: Part, at: usize, goal: usize) -> Option<Side> {
     }
 }
 
-// The side to which a word goes on: along its row first, or along its column.
-fn side_towards(part: Part, at: usize, goal: usize, by_columns: bool) -> Option<Side> {
-    if by_columns {
-        along_column(part, at, goal).or(along_row(part, at, goal))
-    } else {
-        along_row(part, at, goal).or(along_column(part, at, goal))
+// The side to which a word goes on.
+fn side_towards(part: Part, at: TileId, goal: TileId, shape: Shape) -> Option<Side> {
+    match shape {
+        Shape::RowFirst => along_row(part, at, goal).or(along_column(part, at, goal)),
+        Shape::ColumnFirst => along_column(part, at, goal).or(along_row(part, at, goal)),
     }
 }
 
@@ -91,12 +99,12 @@ impl Route {
         part: Part,
         root: Root,
         goal: Goal,
-        by_columns: bool,
+        shape: Shape,
     ) -> Result<usize, AllocError> {
         let Root { mut tile, mut from } = root;
         let mut after: usize = 0;
         for _ in 0..part.cols.saturating_add(part.rows) {
-            let Some(side) = side_towards(part, tile, goal.tile, by_columns) else {
+            let Some(side) = side_towards(part, tile, goal.tile, shape) else {
                 break;
             };
             let to = Dir::from(side);
@@ -125,9 +133,9 @@ impl Route {
         alloc: Global,
         site: Site<'_>,
         root: Root,
-        tiles: &[usize],
+        tiles: &[TileId],
         sink: Option<Goal>,
-        by_columns: bool,
+        shape: Shape,
     ) -> Result<Route, AllocError> {
         let mut route = Route {
             hops: Vec::new(alloc),
@@ -139,11 +147,11 @@ impl Route {
                 tile: *tile,
                 to: Dir::P,
             };
-            let delay = route.walk(site.part, root, goal, by_columns)?;
+            let delay = route.walk(site.part, root, goal, shape)?;
             route.delays.push(delay)?;
         }
         if let Some(goal) = sink {
-            route.out_delay = route.walk(site.part, root, goal, by_columns)?;
+            route.out_delay = route.walk(site.part, root, goal, shape)?;
         }
         Ok(route)
     }

@@ -4,7 +4,8 @@ use crate::ready::{Ready, Turn};
 use crate::schedule::Schedule;
 use crate::sending::Departure;
 use crate::task::Task;
-use raw_frame::Table;
+use raw_body::{GroupId, SinkId, SourceId};
+use raw_frame::{Table, TileId, ValueId};
 use std::alloc::{AllocError, Global};
 
 /// Which value gets its time first.
@@ -31,18 +32,27 @@ struct Running<'a> {
     /// Whether the inputs are spread over the interval.
     is_even: bool,
     /// How many operands of each group have no time yet.
-    pending: Table<usize>,
+    pending: Table<GroupId, usize>,
     ready: Ready,
     /// The inputs, in their order, and how many have their times.
-    inputs: Vec<usize>,
+    inputs: Vec<ValueId>,
     next_input: usize,
     /// How many inputs of each source there are, how many have their times, and when the first and the last leave.
-    totals: Table<usize>,
-    counts: Table<usize>,
-    first: Table<Option<usize>>,
-    last: Table<Option<usize>>,
+    totals: Table<SourceId, usize>,
+    counts: Table<SourceId, usize>,
+    first: Table<SourceId, Option<usize>>,
+    last: Table<SourceId, Option<usize>>,
     /// When the last operation is done at each tile.
-    latest: Table<usize>,
+    latest: Table<TileId, usize>,
+}
+
+/// The next input that leaves its source.
+#[derive(Clone, Copy)]
+struct NextInput {
+    value: ValueId,
+    source: SourceId,
+    /// When it may leave it.
+    from: usize,
 }
 
 impl<'a> Running<'a> {
@@ -72,16 +82,16 @@ impl<'a> Running<'a> {
     }
 
     // The first member of a group.
-    fn first_member(&self, group: usize) -> usize {
+    fn first_member(&self, group: GroupId) -> ValueId {
         let task = self.schedule.task;
         match task.components.members(group).first() {
             Some(value) => *value,
-            None => 0,
+            None => ValueId(0),
         }
     }
 
     // When all operations of a group can be done at the earliest.
-    fn earliest(&self, group: usize) -> usize {
+    fn earliest(&self, group: GroupId) -> usize {
         let task = self.schedule.task;
         let mut earliest = self.schedule.interval;
         let components = task.components;
@@ -92,7 +102,7 @@ impl<'a> Running<'a> {
     }
 
     // The greatest height in a group, from the top.
-    fn rank(&self, group: usize) -> usize {
+    fn rank(&self, group: GroupId) -> usize {
         let task = self.schedule.task;
         let mut height = 0;
         let components = task.components;
@@ -103,7 +113,7 @@ impl<'a> Running<'a> {
     }
 
     // The last turn in a group.
-    fn turn(&self, group: usize) -> usize {
+    fn turn(&self, group: GroupId) -> usize {
         let task = self.schedule.task;
         let mut turn = 0;
         let components = task.components;
@@ -114,7 +124,7 @@ impl<'a> Running<'a> {
     }
 
     // A group whose operands have their times is ready; outs come last.
-    fn add_ready(&mut self, group: usize) -> Result<(), AllocError> {
+    fn add_ready(&mut self, group: GroupId) -> Result<(), AllocError> {
         let value = self.first_member(group);
         let body = self.schedule.task.body;
         if body.origin(value).is_input() || body.out_of(value).is_some() {
@@ -134,7 +144,7 @@ impl<'a> Running<'a> {
     }
 
     // What each group waits for.
-    fn count_pending(&mut self, value: usize) {
+    fn count_pending(&mut self, value: ValueId) {
         let task = self.schedule.task;
         let group = task.components.group(value);
         let body = task.body;
@@ -150,13 +160,13 @@ impl<'a> Running<'a> {
     // Before the first step.
     fn begin(&mut self) -> Result<(), AllocError> {
         let task = self.schedule.task;
-        for value in 0..task.body.count() {
+        for value in (0..task.body.count()).map(ValueId) {
             self.count_pending(value);
             if task.body.origin(value).is_input() {
                 self.inputs.push(value)?;
             }
         }
-        for group in 0..task.components.count() {
+        for group in (0..task.components.count()).map(GroupId) {
             if self.pending.at(group) == 0 {
                 self.add_ready(group)?;
             }
@@ -165,7 +175,7 @@ impl<'a> Running<'a> {
     }
 
     // One operand of a group has its time.
-    fn operand_done(&mut self, group: usize) -> Result<(), AllocError> {
+    fn operand_done(&mut self, group: GroupId) -> Result<(), AllocError> {
         let pending = self.pending.at(group).saturating_sub(1);
         self.pending.put(group, pending);
         if pending == 0 {
@@ -175,7 +185,7 @@ impl<'a> Running<'a> {
     }
 
     // A value has its time.
-    fn value_done(&mut self, value: usize) -> Result<(), AllocError> {
+    fn value_done(&mut self, value: ValueId) -> Result<(), AllocError> {
         let task = self.schedule.task;
         let group = task.components.group(value);
         let body = task.body;
@@ -189,7 +199,7 @@ impl<'a> Running<'a> {
     }
 
     // All values of a group have their times.
-    fn group_done(&mut self, group: usize) -> Result<(), AllocError> {
+    fn group_done(&mut self, group: GroupId) -> Result<(), AllocError> {
         let task = self.schedule.task;
         let components = task.components;
         for value in components.members(group) {
@@ -199,34 +209,43 @@ impl<'a> Running<'a> {
     }
 
     // When the next input may leave its source at the earliest.
-    fn input_from(&self, port: usize) -> usize {
+    fn input_from(&self, source: SourceId) -> usize {
         let interval = self.schedule.interval;
-        let count = self.counts.at(port);
+        let count = self.counts.at(source);
         let pace = if self.is_even {
             let spread = count.saturating_mul(interval);
-            spread.checked_div(self.totals.at(port)).unwrap_or(0)
+            spread.checked_div(self.totals.at(source)).unwrap_or(0)
         } else {
             count
         };
-        let behind = match self.last.at(port) {
+        let behind = match self.last.at(source) {
             Some(last) => last.saturating_add(1),
             None => 0,
         };
         interval.saturating_add(pace).max(behind)
     }
 
-    // The next input, with its source and when it may leave that.
-    fn input(&self) -> Option<(usize, usize, usize)> {
+    // The next input.
+    fn input(&self) -> Option<NextInput> {
         let value = self.inputs.get(self.next_input).copied()?;
-        let port = self.schedule.task.body.origin(value).source()?;
-        Some((value, port, self.input_from(port)))
+        let source = self.schedule.task.body.origin(value).source()?;
+        Some(NextInput {
+            value,
+            source,
+            from: self.input_from(source),
+        })
     }
 
     // An input leaves its source.
-    fn take_input(&mut self, value: usize, port: usize, from: usize) -> Result<bool, AllocError> {
+    fn take_input(&mut self, input: NextInput) -> Result<bool, AllocError> {
+        let NextInput {
+            value,
+            source,
+            from,
+        } = input;
         let interval = self.schedule.interval;
         let latest = from.saturating_add(interval);
-        let until = match self.first.at(port) {
+        let until = match self.first.at(source) {
             Some(first) => first.saturating_add(interval).saturating_sub(1).min(latest),
             None => latest,
         };
@@ -237,24 +256,24 @@ impl<'a> Running<'a> {
             until,
             due: None,
         });
-        let Some(message) = self.schedule.message(value) else {
+        let Some(message) = self.schedule.messages.at(value) else {
             return Ok(false);
         };
         self.schedule.made.put(value, Some(message.first));
         self.next_input = self.next_input.saturating_add(1);
         self.counts
-            .put(port, self.counts.at(port).saturating_add(1));
+            .put(source, self.counts.at(source).saturating_add(1));
         self.first
-            .put(port, self.first.at(port).or(Some(message.first)));
-        self.last.put(port, Some(message.first));
+            .put(source, self.first.at(source).or(Some(message.first)));
+        self.last.put(source, Some(message.first));
         self.value_done(value)?;
         Ok(is_sent)
     }
 
     // An operation that needs no other one that needs it gets its time.
-    fn take_single(&mut self, value: usize) -> bool {
+    fn take_single(&mut self, value: ValueId) -> bool {
         let interval = self.schedule.interval;
-        let tile = self.schedule.task.home(value);
+        let tile = self.schedule.task.homes.at(value);
         let earliest = self.schedule.earliest(value).max(interval);
         let from = match self.rule {
             Rule::OutByOut => earliest.max(self.latest.at(tile).saturating_sub(2)),
@@ -268,14 +287,14 @@ impl<'a> Running<'a> {
                 due: None,
             },
         );
-        if let Some(made) = self.schedule.made(value) {
+        if let Some(made) = self.schedule.made.at(value) {
             self.latest.put(tile, made.max(self.latest.at(tile)));
         }
         is_made
     }
 
     // The operations of a group get their times.
-    fn take_group(&mut self, alloc: Global, group: usize) -> Result<bool, AllocError> {
+    fn take_group(&mut self, alloc: Global, group: GroupId) -> Result<bool, AllocError> {
         let task = self.schedule.task;
         let members = task.components.members(group);
         let is_done = if members.len() > 1 {
@@ -301,9 +320,9 @@ impl<'a> Running<'a> {
     // One step: whether it could be done, or none where nothing is left.
     fn step(&mut self, alloc: Global) -> Result<Option<bool>, AllocError> {
         let turn = self.ready.next();
-        if let Some((value, port, from)) = self.input() {
-            if self.is_input_first(from, turn) {
-                return Ok(Some(self.take_input(value, port, from)?));
+        if let Some(input) = self.input() {
+            if self.is_input_first(input.from, turn) {
+                return Ok(Some(self.take_input(input)?));
             }
         }
         match turn {
@@ -332,8 +351,8 @@ impl<'a> Running<'a> {
     fn run_outs(&mut self, alloc: Global) -> Result<bool, AllocError> {
         let task = self.schedule.task;
         let sinks = task.site.sinks;
-        for port in 0..sinks.len() {
-            if !self.schedule.make_outs(alloc, port)? {
+        for sink in (0..sinks.len()).map(SinkId) {
+            if !self.schedule.make_outs(alloc, sink)? {
                 return Ok(false);
             }
         }

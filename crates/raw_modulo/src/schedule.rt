@@ -3,59 +3,85 @@ use crate::board::Board;
 use crate::queues::Queues;
 use crate::receiving::Coming;
 use crate::sending::Message;
-use crate::task::{Task, operand_number};
-use raw_frame::Table;
-use raw_grid::Net;
+use crate::task::{LocalId, OperandId, Task};
+use raw_body::SourceId;
+use raw_frame::{Numbered, Table, TileId, ValueId, net_index};
+use raw_grid::{Dir, Net};
 use std::alloc::{AllocError, Global};
 
 /// What has its time at an interval, and what is taken by that.
 #[derive(Drop)]
 pub struct Schedule<'a> {
     pub(crate) task: &'a Task<'a>,
-    pub(crate) interval: usize,
+    /// How many cycles a row is behind the one before.
+    pub interval: usize,
     /// So many cycles before its use a word is loaded at most.
     pub(crate) reach: usize,
     /// The cycles of tiles.
-    pub(crate) tiles: Board,
+    pub(crate) tiles: Board<TileId>,
     /// The outputs of switches.
-    pub(crate) links: Board,
+    pub(crate) links: Board<Link>,
     /// The inputs of switches from their tiles, by networks.
-    pub(crate) leaving: Board,
+    pub(crate) leaving: Board<Lane>,
     /// The sources.
-    pub(crate) sources: Board,
+    pub(crate) sources: Board<SourceId>,
     /// The queues to tiles, by networks.
     pub(crate) inward: Queues,
     /// The queues from tiles.
     pub(crate) outward: Queues,
     /// When each value is made, or leaves its source.
-    pub(crate) made: Table<Option<usize>>,
+    pub made: Table<ValueId, Option<usize>>,
     /// When each value is sent by an instruction of its own.
-    pub(crate) sent: Table<Option<usize>>,
-    pub(crate) messages: Table<Option<Message>>,
-    pub(crate) comings: Table<Option<Coming>>,
+    pub sent: Table<ValueId, Option<usize>>,
+    /// How each value goes to other tiles, to its sink or back.
+    pub messages: Table<ValueId, Option<Message>>,
+    /// How each local comes.
+    pub comings: Table<LocalId, Option<Coming>>,
     /// When each local is stored.
-    pub(crate) stored: Table<Option<usize>>,
+    pub stored: Table<LocalId, Option<usize>>,
     /// When the constant of each value is loaded.
-    pub(crate) constants: Table<Option<usize>>,
-    /// When each operand is loaded.
-    pub(crate) loaded: Table<Option<usize>>,
+    pub constants: Table<ValueId, Option<usize>>,
+    /// When each operand is loaded from memory.
+    pub loaded: Table<OperandId, Option<usize>>,
     /// How many hops there are on each network.
     pub(crate) traffic: [usize; 2],
     /// How many tries are left.
     pub(crate) left: usize,
 }
 
-/// The number of a network.
-pub(crate) fn net_number(net: Net) -> usize {
-    match net {
-        Net::One => 0,
-        Net::Two => 1,
+/// A lane or a queue of a tile on a network.
+#[derive(Clone, Copy)]
+pub(crate) struct Lane(pub(crate) usize);
+
+/// An output of a switch.
+#[derive(Clone, Copy)]
+pub(crate) struct Link(usize);
+
+impl Numbered for Lane {
+    fn number(self) -> usize {
+        self.0
     }
 }
 
-/// The lane or queue of a tile on a network.
-pub(crate) fn lane(tile: usize, net: Net) -> usize {
-    tile.saturating_mul(2).saturating_add(net_number(net))
+impl Numbered for Link {
+    fn number(self) -> usize {
+        self.0
+    }
+}
+
+impl Lane {
+    /// That of a tile on a network.
+    pub(crate) fn of(tile: TileId, net: Net) -> Lane {
+        Lane(tile.0.saturating_mul(2).saturating_add(net_index(net)))
+    }
+}
+
+impl Link {
+    /// That of the switch beside a tile in a direction.
+    pub(crate) fn of(tile: TileId, net: Net, dir: Dir) -> Link {
+        let first = Lane::of(tile, net).0.saturating_mul(5);
+        Link(first.saturating_add(usize::from(dir.index())))
+    }
 }
 
 impl<'a> Schedule<'a> {
@@ -69,7 +95,7 @@ impl<'a> Schedule<'a> {
     ) -> Result<Schedule<'a>, AllocError> {
         let tiles = task.site.part.tiles();
         let lanes = tiles.saturating_mul(2);
-        let (count, locals) = (task.body.count(), task.local_count());
+        let (count, locals) = (task.body.count(), task.locals.size());
         Ok(Schedule {
             task,
             interval,
@@ -92,53 +118,8 @@ impl<'a> Schedule<'a> {
         })
     }
 
-    /// How many cycles a row is behind the one before.
-    pub fn interval(&self) -> usize {
-        self.interval
-    }
-
-    /// When a value is made; an input, when it leaves its source.
-    pub fn made(&self, value: usize) -> Option<usize> {
-        self.made.at(value)
-    }
-
-    /// When a value is sent by an instruction of its own.
-    pub fn sent(&self, value: usize) -> Option<usize> {
-        self.sent.at(value)
-    }
-
-    /// How a value goes to other tiles, to its sink or back.
-    pub fn message(&self, value: usize) -> Option<Message> {
-        self.messages.at(value)
-    }
-
-    /// How a local comes.
-    pub fn coming(&self, local: usize) -> Option<Coming> {
-        self.comings.at(local)
-    }
-
-    /// When a local is stored.
-    pub fn stored(&self, local: usize) -> Option<usize> {
-        self.stored.at(local)
-    }
-
-    /// When the constant of a value is loaded.
-    pub fn constant_loaded(&self, value: usize) -> Option<usize> {
-        self.constants.at(value)
-    }
-
-    /// When an operand of a value is loaded from memory.
-    pub fn operand_loaded(&self, value: usize, place: usize) -> Option<usize> {
-        self.loaded.at(operand_number(value, place))
-    }
-
-    /// How many tries are left.
-    pub fn left(&self) -> usize {
-        self.left
-    }
-
     // The last free cycle of a tile before one, not before a least one and not too long before. It is taken.
-    pub(crate) fn take_before(&mut self, tile: usize, time: usize, least: usize) -> Option<usize> {
+    pub(crate) fn take_before(&mut self, tile: TileId, time: usize, least: usize) -> Option<usize> {
         for step in 1..self.reach {
             let at = time.checked_sub(step)?;
             if at < least {
@@ -153,7 +134,7 @@ impl<'a> Schedule<'a> {
     }
 
     // The first free cycle of a tile behind one. It is taken.
-    pub(crate) fn take_behind(&mut self, tile: usize, time: usize) -> Option<usize> {
+    pub(crate) fn take_behind(&mut self, tile: TileId, time: usize) -> Option<usize> {
         for step in 1..self.interval {
             let at = time.saturating_add(step);
             if self.tiles.is_free(tile, at) {
@@ -165,7 +146,7 @@ impl<'a> Schedule<'a> {
     }
 
     // A cycle of a tile is free again.
-    pub(crate) fn give_back(&mut self, tile: usize, time: Option<usize>) {
+    pub(crate) fn give_back(&mut self, tile: TileId, time: Option<usize>) {
         if let Some(time) = time {
             self.tiles.free(tile, time);
         }

@@ -1,7 +1,9 @@
 //! How words leave tiles and sources.
 use crate::queues::Stay;
-use crate::routes::Route;
-use crate::schedule::{Schedule, lane, net_number};
+use crate::routes::{Route, Shape};
+use crate::schedule::{Lane, Link, Schedule};
+use crate::task::LocalId;
+use raw_frame::{ValueId, net_index};
 use raw_grid::Net;
 
 /// A word on its way.
@@ -11,7 +13,7 @@ pub struct Message {
     /// When it makes its first hop.
     pub first: usize,
     /// Which of the ways of its value it goes.
-    pub shape: usize,
+    pub shape: Shape,
 }
 
 /// When an out may make its last hop, and on which network.
@@ -25,7 +27,7 @@ pub(crate) struct Due {
 /// A word that is to leave.
 #[derive(Clone, Copy)]
 pub(crate) struct Departure {
-    pub(crate) value: usize,
+    pub(crate) value: ValueId,
     /// When a tile sends it; none of a word of a source.
     pub(crate) pushed: Option<usize>,
     /// When it may make its first hop.
@@ -40,8 +42,8 @@ impl Schedule<'_> {
         if let Some(due) = departure.due {
             return (due.net, None);
         }
-        if let Some(port) = self.task.body.origin(departure.value).source() {
-            let (_, net) = self.task.site.source_end(port);
+        if let Some(source) = self.task.body.origin(departure.value).source() {
+            let (_, net) = self.task.site.source_end(source);
             return (net, None);
         }
         let [one, two] = self.traffic;
@@ -53,34 +55,30 @@ impl Schedule<'_> {
     }
 
     // Whether a word may make its first hop in a cycle.
-    fn may_leave(&self, value: usize, net: Net, time: usize) -> bool {
+    fn may_leave(&self, value: ValueId, net: Net, time: usize) -> bool {
         match self.task.body.origin(value).source() {
-            Some(port) => self.sources.is_free(port, time),
-            None => self.leaving.is_free(lane(self.task.home(value), net), time),
+            Some(source) => self.sources.is_free(source, time),
+            None => self
+                .leaving
+                .is_free(Lane::of(self.task.homes.at(value), net), time),
         }
     }
 
     // Takes the place of its first hop, or gives it back.
-    fn mark_leaving(&mut self, value: usize, message: Message, is_taken: bool) {
-        let place = lane(self.task.home(value), message.net);
+    fn mark_leaving(&mut self, value: ValueId, message: Message, is_taken: bool) {
+        let place = Lane::of(self.task.homes.at(value), message.net);
         match (self.task.body.origin(value).source(), is_taken) {
-            (Some(port), true) => self.sources.take(port, message.first),
-            (Some(port), false) => self.sources.free(port, message.first),
+            (Some(source), true) => self.sources.take(source, message.first),
+            (Some(source), false) => self.sources.free(source, message.first),
             (None, true) => self.leaving.take(place, message.first),
             (None, false) => self.leaving.free(place, message.first),
         }
     }
 
-    // The lane of an output of a switch.
-    fn link(&self, tile: usize, net: Net, dir: u8) -> usize {
-        let first = lane(tile, net).saturating_mul(5);
-        first.saturating_add(usize::from(dir))
-    }
-
     // Whether all links of a way are free.
     fn has_links(&self, route: &Route, message: Message) -> bool {
         for hop in &route.hops {
-            let link = self.link(hop.tile, message.net, hop.to.index());
+            let link = Link::of(hop.tile, message.net, hop.to);
             if !self
                 .links
                 .is_free(link, message.first.saturating_add(hop.after))
@@ -92,13 +90,13 @@ impl Schedule<'_> {
     }
 
     // Takes the links of a way, or gives them back.
-    fn mark_links(&mut self, value: usize, message: Message, is_taken: bool) {
+    fn mark_links(&mut self, value: ValueId, message: Message, is_taken: bool) {
         let task = self.task;
         let Some(route) = task.route(value, message.shape) else {
             return;
         };
         for hop in &route.hops {
-            let link = self.link(hop.tile, message.net, hop.to.index());
+            let link = Link::of(hop.tile, message.net, hop.to);
             let time = message.first.saturating_add(hop.after);
             if is_taken {
                 self.links.take(link, time);
@@ -111,7 +109,7 @@ impl Schedule<'_> {
 
     // Counts the hops on a network.
     fn mark_traffic(&mut self, net: Net, hops: usize, is_taken: bool) {
-        if let Some(traffic) = self.traffic.get_mut(net_number(net)) {
+        if let Some(traffic) = self.traffic.get_mut(net_index(net)) {
             *traffic = if is_taken {
                 traffic.saturating_add(hops)
             } else {
@@ -132,7 +130,7 @@ impl Schedule<'_> {
     fn push(&mut self, departure: Departure, message: Message) -> bool {
         match departure.pushed {
             Some(pushed) => {
-                let queue = lane(self.task.home(departure.value), message.net);
+                let queue = Lane::of(self.task.homes.at(departure.value), message.net);
                 let stay = self.outward_stay(pushed, message);
                 self.outward.add(queue, stay)
             }
@@ -141,23 +139,23 @@ impl Schedule<'_> {
     }
 
     // It does not.
-    fn unpush(&mut self, value: usize, pushed: Option<usize>, message: Message) {
+    fn unpush(&mut self, value: ValueId, pushed: Option<usize>, message: Message) {
         if let Some(pushed) = pushed {
-            let queue = lane(self.task.home(value), message.net);
+            let queue = Lane::of(self.task.homes.at(value), message.net);
             let stay = self.outward_stay(pushed, message);
             self.outward.remove(queue, stay);
         }
     }
 
     // All tiles to which a word comes receive it. False where one cannot; then none does.
-    fn receive_all(&mut self, value: usize, message: Message) -> bool {
+    fn receive_all(&mut self, value: ValueId, message: Message) -> bool {
         let task = self.task;
         let Some(route) = task.route(value, message.shape) else {
             return false;
         };
         let mut place: usize = 0;
-        for local in task.first_local(value)..task.end_of_locals(value) {
-            if task.local(local).comes {
+        for local in (task.first_local(value).0..task.end_of_locals(value).0).map(LocalId) {
+            if task.locals.at(local).comes {
                 let delay = route.delays.get(place).copied().unwrap_or(0);
                 place = place.saturating_add(1);
                 if !self.receive(local, message.net, message.first.saturating_add(delay)) {
@@ -170,8 +168,9 @@ impl Schedule<'_> {
     }
 
     // No tile receives a word.
-    fn unreceive_all(&mut self, value: usize) {
-        for local in self.task.first_local(value)..self.task.end_of_locals(value) {
+    fn unreceive_all(&mut self, value: ValueId) {
+        let task = self.task;
+        for local in (task.first_local(value).0..task.end_of_locals(value).0).map(LocalId) {
             self.unreceive(local);
         }
     }
@@ -215,7 +214,7 @@ impl Schedule<'_> {
         if !self.may_leave(departure.value, net, first) {
             return false;
         }
-        for shape in 0..2 {
+        for shape in [Shape::RowFirst, Shape::ColumnFirst] {
             if self.try_message(departure, Message { net, first, shape }) {
                 return true;
             }
@@ -243,7 +242,7 @@ impl Schedule<'_> {
     }
 
     /// A word is not sent.
-    pub(crate) fn unsend(&mut self, value: usize) {
+    pub(crate) fn unsend(&mut self, value: ValueId) {
         if let Some(message) = self.messages.at(value) {
             let is_input = self.task.body.origin(value).is_input();
             let pushed = if is_input {
@@ -260,7 +259,7 @@ impl Schedule<'_> {
     }
 
     /// When an out makes its last hop.
-    pub(crate) fn last_hop(&self, value: usize) -> Option<usize> {
+    pub(crate) fn last_hop(&self, value: ValueId) -> Option<usize> {
         let message = self.messages.at(value)?;
         let route = self.task.route(value, message.shape)?;
         Some(message.first.saturating_add(route.out_delay))

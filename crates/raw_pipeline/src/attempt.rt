@@ -6,7 +6,7 @@ use crate::relieving::{GivenUp, given_up};
 use crate::switch_code::{passings, switch_program};
 use crate::tile_code::tile_program;
 use raw_body::{Body, Components, Order, Site};
-use raw_frame::Table;
+use raw_frame::{Numbered, Table, TileId, ValueId};
 use raw_model::TileProg;
 use raw_modulo::{Rule, Task, find_schedule};
 use std::alloc::{AllocError, Global};
@@ -36,7 +36,7 @@ pub(crate) struct Spread<'a> {
     pub(crate) components: &'a Components,
     pub(crate) order: &'a Order,
     pub(crate) site: Site<'a>,
-    pub(crate) homes: &'a Table<usize>,
+    pub(crate) homes: &'a Table<ValueId, TileId>,
     pub(crate) rows: Rows,
 }
 
@@ -82,15 +82,11 @@ pub(crate) fn cost_of(interval: usize, rows: usize) -> usize {
 fn programs(alloc: Global, plan: &Plan<'_>) -> Result<Option<Vec<TileProg>>, AllocError> {
     let mut programs = Vec::new(alloc);
     let lists = passings(alloc, plan)?;
-    for tile in 0..lists.len() {
-        let list = match lists.get(tile) {
-            Some(list) => list.as_slice(),
-            None => &[],
-        };
+    for (tile, list) in lists.iter().enumerate() {
         let Some(switch) = switch_program(alloc, plan, list)? else {
             return Ok(None);
         };
-        let Some(code) = tile_program(alloc, plan, tile, switch.loops)? else {
+        let Some(code) = tile_program(alloc, plan, TileId(tile), switch.loops)? else {
             return Ok(None);
         };
         programs.push(TileProg {
@@ -117,7 +113,7 @@ fn try_interval(
         return Ok(Outcome::Nothing);
     };
     let lives = lives_of(alloc, task, &schedule)?;
-    let all = rows.count.checked_div(task.body.rows()).unwrap_or(0);
+    let all = rows.count.checked_div(task.body.rows).unwrap_or(0);
     let registers = match allot(alloc, task, &schedule, &lives, all)? {
         Allotted::All(registers) => registers,
         Allotted::TooLong => return Ok(Outcome::TooLong),
@@ -140,11 +136,11 @@ fn try_interval(
     }
 }
 
-// The most of a table.
-fn most(table: &Table<usize>) -> usize {
+/// The most of a table.
+pub(crate) fn most<N: Numbered>(table: &Table<N, usize>) -> usize {
     let mut most = 0;
-    for place in 0..table.size() {
-        most = table.at(place).max(most);
+    for item in table.items() {
+        most = (*item).max(most);
     }
     most
 }
@@ -153,7 +149,7 @@ fn most(table: &Table<usize>) -> usize {
 fn least_interval(alloc: Global, spread: Spread<'_>) -> Result<usize, AllocError> {
     let body = spread.body;
     let mut loads = Table::new(alloc, spread.site.part.tiles(), 0_usize)?;
-    for value in 0..body.count() {
+    for value in (0..body.count()).map(ValueId) {
         if !body.origin(value).is_input() {
             let tile = spread.homes.at(value);
             loads.put(tile, loads.at(tile).saturating_add(1));
@@ -169,7 +165,7 @@ fn least_interval(alloc: Global, spread: Spread<'_>) -> Result<usize, AllocError
 fn give_up(task: &mut Task<'_>, given_up: &[GivenUp]) {
     for one in given_up {
         match *one {
-            GivenUp::Local(local) => task.to_memory(local),
+            GivenUp::Local(local) => task.in_memory.put(local, true),
             GivenUp::Constant(number) => task.drop_constant(number),
         }
     }
@@ -188,7 +184,7 @@ pub(crate) fn attempt(
     let mut interval = least_interval(alloc, spread)?;
     let mut reliefs: usize = 0;
     for _ in 0..MOST_INTERVALS {
-        if cost_of(interval, spread.body.rows()) >= cap || *left == 0 {
+        if cost_of(interval, spread.body.rows) >= cap || *left == 0 {
             return Ok(None);
         }
         let more = match try_interval(alloc, &task, spread.rows, interval, style, left)? {

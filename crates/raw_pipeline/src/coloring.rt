@@ -1,14 +1,18 @@
 //! Registers for what a tile holds: arcs on a circle, of which no two that meet share a color.
 use std::alloc::{AllocError, Global};
 
+/// A life by its place among some.
+#[derive(Clone, Copy, PartialEq, Eq, PartialOrd, Ord)]
+pub(crate) struct LifeId(pub(crate) usize);
+
 /// For some cycles of a round something is held.
 #[derive(Clone, Copy, PartialEq, Eq, PartialOrd, Ord)]
 pub(crate) struct Arc {
     pub(crate) start: usize,
     /// From the top: the longest come first.
     pub(crate) shortness: usize,
-    /// Which life it is of, and in which row of a round.
-    pub(crate) life: usize,
+    pub(crate) life: LifeId,
+    /// In which row of a round.
     pub(crate) row: usize,
 }
 

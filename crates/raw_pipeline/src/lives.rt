@@ -1,23 +1,24 @@
 //! How long registers hold what.
-use raw_modulo::{Local, Schedule, Task, operand_number};
+use raw_body::Position;
+use raw_frame::{TileId, ValueId};
+use raw_modulo::{Local, LocalId, OperandId, Schedule, Task};
 use std::alloc::{AllocError, Global};
 
 /// What a register holds for some time of each row.
 #[derive(Clone, Copy, PartialEq, Eq, PartialOrd, Ord)]
 pub(crate) enum Held {
-    /// The local with this number.
-    Local(usize),
+    Local(LocalId),
     /// The constant that was loaded for this value.
-    Constant(usize),
-    /// The operand with this number, which was loaded from memory.
-    Operand(usize),
+    Constant(ValueId),
+    /// An operand that was loaded from memory.
+    Operand(OperandId),
 }
 
 /// A register of a tile holds something from the cycle in which it is written to the one in which it is read last.
 #[derive(Clone, Copy, PartialEq, Eq)]
 pub(crate) struct Life {
     pub(crate) held: Held,
-    pub(crate) tile: usize,
+    pub(crate) tile: TileId,
     pub(crate) from: usize,
     pub(crate) until: usize,
     /// How many operations read it.
@@ -43,9 +44,9 @@ pub(crate) fn last_use(
     let mut last = from;
     let body = task.body;
     for used in body.uses(local.value) {
-        if task.home(used.user) == local.tile {
-            let made = schedule.made(used.user).unwrap_or(0);
-            let rows = used.back.saturating_mul(schedule.interval());
+        if task.homes.at(used.user) == local.tile {
+            let made = schedule.made.at(used.user).unwrap_or(0);
+            let rows = used.back.saturating_mul(schedule.interval);
             last = made.saturating_add(rows).max(last);
         }
     }
@@ -53,10 +54,10 @@ pub(crate) fn last_use(
 }
 
 // How long a local is held that comes from the network.
-fn life_received(task: &Task<'_>, schedule: &Schedule<'_>, number: usize) -> Option<Life> {
-    let local = task.local(number);
-    let coming = schedule.coming(number)?;
-    if coming.taken.is_some() || task.is_in_memory(number) {
+fn life_received(task: &Task<'_>, schedule: &Schedule<'_>, number: LocalId) -> Option<Life> {
+    let local = task.locals.at(number);
+    let coming = schedule.comings.at(number)?;
+    if coming.taken.is_some() || task.in_memory.at(number) {
         return None;
     }
     let from = coming.received;
@@ -71,14 +72,14 @@ fn life_received(task: &Task<'_>, schedule: &Schedule<'_>, number: usize) -> Opt
 }
 
 // How long a local is held that is made at its tile.
-fn life_made(task: &Task<'_>, schedule: &Schedule<'_>, number: usize) -> Option<Life> {
-    let local = task.local(number);
-    let from = schedule.made(local.value)?;
-    let used = match schedule.stored(number) {
+fn life_made(task: &Task<'_>, schedule: &Schedule<'_>, number: LocalId) -> Option<Life> {
+    let local = task.locals.at(number);
+    let from = schedule.made.at(local.value)?;
+    let used = match schedule.stored.at(number) {
         Some(stored) => stored,
         None => last_use(task, schedule, local, from),
     };
-    let until = schedule.sent(local.value).unwrap_or(0).max(used);
+    let until = schedule.sent.at(local.value).unwrap_or(0).max(used);
     if until <= from {
         return None;
     }
@@ -96,16 +97,16 @@ fn life_made(task: &Task<'_>, schedule: &Schedule<'_>, number: usize) -> Option<
 fn life_loaded(
     task: &Task<'_>,
     schedule: &Schedule<'_>,
-    value: usize,
+    value: ValueId,
     held: Held,
     loaded: Option<usize>,
 ) -> Option<Life> {
     let from = loaded?;
     Some(Life {
         held,
-        tile: task.home(value),
+        tile: task.homes.at(value),
         from,
-        until: schedule.made(value)?,
+        until: schedule.made.at(value)?,
         uses: 0,
         is_received: false,
     })
@@ -124,16 +125,16 @@ fn add_loaded(
     lives: &mut Vec<Life>,
     task: &Task<'_>,
     schedule: &Schedule<'_>,
-    value: usize,
+    value: ValueId,
 ) -> Result<(), AllocError> {
-    let loaded = schedule.constant_loaded(value);
+    let loaded = schedule.constants.at(value);
     add(
         lives,
         life_loaded(task, schedule, value, Held::Constant(value), loaded),
     )?;
-    for place in 0..2 {
-        let held = Held::Operand(operand_number(value, place));
-        let loaded = schedule.operand_loaded(value, place);
+    for position in Position::BOTH {
+        let held = Held::Operand(OperandId::of(value, position));
+        let loaded = schedule.loaded.at(OperandId::of(value, position));
         add(lives, life_loaded(task, schedule, value, held, loaded))?;
     }
     Ok(())
@@ -146,15 +147,15 @@ pub(crate) fn lives_of(
     schedule: &Schedule<'_>,
 ) -> Result<Vec<Life>, AllocError> {
     let mut lives = Vec::new(alloc);
-    for number in 0..task.local_count() {
-        let life = if task.local(number).comes {
+    for number in (0..task.locals.size()).map(LocalId) {
+        let life = if task.locals.at(number).comes {
             life_received(task, schedule, number)
         } else {
             life_made(task, schedule, number)
         };
         add(&mut lives, life)?;
     }
-    for value in 0..task.body.count() {
+    for value in (0..task.body.count()).map(ValueId) {
         add_loaded(&mut lives, task, schedule, value)?;
     }
     Ok(lives)

@@ -1,9 +1,10 @@
 //! The instructions of an operation.
 use crate::lives::Held;
-use crate::tile_code::{SCRATCH, TileCode, network};
-use raw_body::{Operand as BodyOperand, Origin};
+use crate::tile_code::{SCRATCH, TileCode};
+use raw_body::{Operand as BodyOperand, Origin, Position};
+use raw_frame::{Register, ValueId};
 use raw_graph::Operand;
-use raw_modulo::step;
+use raw_modulo::{LocalId, OperandId, RowLocal, named, step};
 use raw_selection::copy;
 use std::alloc::AllocError;
 
@@ -11,7 +12,7 @@ use std::alloc::AllocError;
 #[derive(Clone, Copy)]
 struct Dropped {
     taken: usize,
-    from: u8,
+    from: Register,
 }
 
 // The word that an operation on two words makes.
@@ -28,68 +29,76 @@ fn known(origin: Origin) -> Option<u32> {
 
 impl TileCode<'_> {
     // The register that an operation writes.
-    fn target(&self, value: usize, step: usize) -> u8 {
+    fn target(&self, value: ValueId, step: usize) -> Register {
         let local = self.plan.task.first_local(value);
         let register = self.local_register(local, step);
-        if self.plan.schedule.sent(value).is_some() {
+        if self.plan.schedule.sent.at(value).is_some() {
             return register;
         }
-        match self.plan.schedule.message(value) {
-            Some(message) => network(message.net),
-            None if self.plan.task.local(local).comes => 0,
+        match self.plan.schedule.messages.at(value) {
+            Some(message) => Register::of_network(message.net),
+            None if self.plan.task.locals.at(local).comes => Register::ZERO,
             None => register,
         }
     }
 
     // The register of a constant of an operation.
-    fn constant_register(&self, value: usize, step: usize) -> u8 {
-        let kept = match self.plan.task.constant_of(value) {
-            Some(number) => self.plan.registers.constant(number),
-            None => 0,
+    fn constant_register(&self, value: ValueId, step: usize) -> Register {
+        let kept = match self.plan.task.constant_of.at(value) {
+            Some(number) => self.plan.registers.constants.at(number),
+            None => None,
         };
-        if kept > 0 {
-            kept
-        } else {
-            self.plan.registers.at(Held::Constant(value), step)
+        match kept {
+            Some(register) => register,
+            None => self.plan.registers.at(Held::Constant(value), step),
         }
     }
 
     // The register from which a local that comes is read: its network's, its own, or one for a first word.
     fn read_coming(
         &mut self,
-        local: usize,
+        local: LocalId,
         is_taken: bool,
         step: usize,
-        scratch: u8,
-    ) -> Result<u8, AllocError> {
-        let Some(coming) = self.plan.schedule.coming(local) else {
-            return Ok(0);
+        scratch: Register,
+    ) -> Result<Register, AllocError> {
+        let Some(coming) = self.plan.schedule.comings.at(local) else {
+            return Ok(Register::ZERO);
         };
         if !is_taken {
             return Ok(self.local_register(local, step));
         }
         if step >= self.plan.lead {
-            return Ok(network(coming.net));
+            return Ok(Register::of_network(coming.net));
         }
-        let value = self.plan.task.local(local).value;
+        let value = self.plan.task.locals.at(local).value;
         let word = self.plan.first_word(value, step).unwrap_or(0);
         self.load_word(scratch, word)?;
         Ok(scratch)
     }
 
     // The register from which an operation reads a value.
-    fn read_value(&mut self, value: usize, place: usize, step: usize) -> Result<u8, AllocError> {
-        let Some((local, back)) = self.plan.task.operand(value, place) else {
-            return Ok(0);
+    fn read_value(
+        &mut self,
+        value: ValueId,
+        position: Position,
+        step: usize,
+    ) -> Result<Register, AllocError> {
+        let Some(RowLocal { local, back }) = self.plan.task.operand(value, position) else {
+            return Ok(Register::ZERO);
         };
-        if self.plan.task.is_in_memory(local) {
-            let held = Held::Operand(raw_modulo::operand_number(value, place));
+        if self.plan.task.in_memory.at(local) {
+            let held = Held::Operand(OperandId::of(value, position));
             return Ok(self.plan.registers.at(held, step));
         }
         let step = step.saturating_sub(back);
-        match self.plan.schedule.coming(local) {
+        match self.plan.schedule.comings.at(local) {
             Some(coming) => {
-                let scratch = if place == 0 { SCRATCH } else { SCRATCH + 1 };
+                let [first, second] = SCRATCH;
+                let scratch = match position {
+                    Position::First => first,
+                    Position::Second => second,
+                };
                 self.read_coming(local, coming.taken.is_some(), step, scratch)
             }
             None => Ok(self.local_register(local, step)),
@@ -97,16 +106,24 @@ impl TileCode<'_> {
     }
 
     // The register from which an operation reads an operand.
-    fn read(&mut self, value: usize, operand: Operand, step: usize) -> Result<u8, AllocError> {
+    fn read(
+        &mut self,
+        value: ValueId,
+        operand: Operand,
+        step: usize,
+    ) -> Result<Register, AllocError> {
         match operand {
-            Operand::Word(0) => Ok(0),
+            Operand::Word(0) => Ok(Register::ZERO),
             Operand::Word(_) => Ok(self.constant_register(value, step)),
-            Operand::Value(place) => self.read_value(value, place, step),
+            Operand::Value(_) if operand == named(Position::First) => {
+                self.read_value(value, Position::First, step)
+            }
+            Operand::Value(_) => self.read_value(value, Position::Second, step),
         }
     }
 
     // Does an operation.
-    fn operate(&mut self, value: usize, at: usize) -> Result<(), AllocError> {
+    fn operate(&mut self, value: ValueId, at: usize) -> Result<(), AllocError> {
         let origin = self.plan.task.body.origin(value);
         let target = self.target(value, at);
         if let Some(word) = known(origin) {
@@ -118,19 +135,22 @@ impl TileCode<'_> {
         let first = self.read(value, step.first(), at)?;
         let second = match step.second() {
             Some(operand) => self.read(value, operand, at)?,
-            None => 0,
+            None => Register::ZERO,
         };
         self.push(step.instruction(target, first, second))
     }
 
     // The word of an operand that comes for a row past the last, and has to be dropped.
-    fn dropped(&self, value: usize, place: usize, step: usize) -> Option<Dropped> {
-        let (local, back) = self.plan.task.operand(value, place)?;
-        let coming = self.plan.schedule.coming(local)?;
+    fn dropped(&self, value: ValueId, position: Position, step: usize) -> Option<Dropped> {
+        let RowLocal { local, back } = self.plan.task.operand(value, position)?;
+        let coming = self.plan.schedule.comings.at(local)?;
         let step = step.checked_sub(back)?;
         let taken = coming.taken?;
-        if self.plan.is_there(self.plan.task.local(local).value, step) {
-            let from = network(coming.net);
+        if self
+            .plan
+            .is_there(self.plan.task.locals.at(local).value, step)
+        {
+            let from = Register::of_network(coming.net);
             Some(Dropped { taken, from })
         } else {
             None
@@ -140,15 +160,15 @@ impl TileCode<'_> {
     // Drops a word.
     fn drop_word(&mut self, dropped: Option<Dropped>) -> Result<(), AllocError> {
         match dropped {
-            Some(dropped) => self.push(copy(0, dropped.from)),
+            Some(dropped) => self.push(copy(Register::ZERO, dropped.from)),
             None => Ok(()),
         }
     }
 
     // Drops the words that come for a row past the last, as they come.
-    fn drop_words(&mut self, value: usize, step: usize) -> Result<(), AllocError> {
-        let first = self.dropped(value, 0, step);
-        let second = self.dropped(value, 1, step);
+    fn drop_words(&mut self, value: ValueId, step: usize) -> Result<(), AllocError> {
+        let first = self.dropped(value, Position::First, step);
+        let second = self.dropped(value, Position::Second, step);
         let is_swapped = match (first, second) {
             (Some(first), Some(second)) => second.taken < first.taken,
             _ => false,
@@ -164,7 +184,7 @@ impl TileCode<'_> {
 
     /// Does the operation of a value in a step. Before the first row it is taken for its first word, and past the last
     /// one the words are dropped that come for it.
-    pub(crate) fn make(&mut self, value: usize, step: usize) -> Result<(), AllocError> {
+    pub(crate) fn make(&mut self, value: ValueId, step: usize) -> Result<(), AllocError> {
         if step < self.plan.lead {
             return self.take_made_first(value, step);
         }

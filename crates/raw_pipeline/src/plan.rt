@@ -1,6 +1,7 @@
 //! A schedule with its registers, for a number of rows.
 use crate::registers::Registers;
-use raw_modulo::{Schedule, Task};
+use raw_frame::ValueId;
+use raw_modulo::{LocalId, Schedule, Task};
 
 /// The rows that programs go through.
 #[derive(Clone, Copy)]
@@ -33,20 +34,15 @@ pub(crate) struct Plan<'a> {
 }
 
 impl Plan<'_> {
-    /// How many cycles a step is behind the one before.
-    pub(crate) fn interval(&self) -> usize {
-        self.schedule.interval()
-    }
-
     /// How many steps have all their rows.
     pub(crate) fn whole(&self) -> usize {
-        let rows = self.task.body.rows();
+        let rows = self.task.body.rows;
         self.rows.count.checked_div(rows).unwrap_or(0)
     }
 
     /// How many steps have rows.
     pub(crate) fn all(&self) -> usize {
-        let rows = self.task.body.rows();
+        let rows = self.task.body.rows;
         let more = self.rows.count.saturating_add(rows.saturating_sub(1));
         more.checked_div(rows).unwrap_or(0)
     }
@@ -54,16 +50,20 @@ impl Plan<'_> {
     // How many cycles pass from the start of a step to its last operation.
     fn length(&self) -> usize {
         let mut last = 0;
-        for value in 0..self.task.body.count() {
-            last = self.schedule.made(value).unwrap_or(0).max(last);
+        for value in (0..self.task.body.count()).map(ValueId) {
+            last = self.schedule.made.at(value).unwrap_or(0).max(last);
         }
-        last.saturating_sub(self.interval())
+        last.saturating_sub(self.schedule.interval)
     }
 
     /// How many thousandths of a cycle a row takes, filling and draining among them: a turn of a loop has two cycles more.
     pub(crate) fn cost(&self) -> usize {
         let turn = 2_000_usize.checked_div(self.registers.rows).unwrap_or(0);
-        let step = self.interval().saturating_mul(1_000).saturating_add(turn);
+        let step = self
+            .schedule
+            .interval
+            .saturating_mul(1_000)
+            .saturating_add(turn);
         let steps = step.saturating_mul(self.all());
         let all = self.length().saturating_mul(1_000).saturating_add(steps);
         all.checked_div(self.rows.count).unwrap_or(usize::MAX)
@@ -75,11 +75,11 @@ impl Plan<'_> {
     }
 
     /// Whether a value has a row in a step.
-    pub(crate) fn is_there(&self, value: usize, step: usize) -> bool {
+    pub(crate) fn is_there(&self, value: ValueId, step: usize) -> bool {
         match step.checked_sub(self.lead) {
             Some(step) => {
                 let body = self.task.body;
-                let first = step.saturating_mul(body.rows());
+                let first = step.saturating_mul(body.rows);
                 first.saturating_add(body.row_of(value)) < self.rows.count
             }
             None => false,
@@ -87,19 +87,19 @@ impl Plan<'_> {
     }
 
     /// What a value is taken for in a step before the first row.
-    pub(crate) fn first_word(&self, value: usize, step: usize) -> Option<u32> {
+    pub(crate) fn first_word(&self, value: ValueId, step: usize) -> Option<u32> {
         let times = self.lead.checked_sub(step)?;
         self.task.body.first_word(value, times)
     }
 
     // How many steps before its own a local is used at most.
-    fn looked_back(&self, local: usize) -> usize {
-        let local = self.task.local(local);
+    fn looked_back(&self, local: LocalId) -> usize {
+        let local = self.task.locals.at(local);
         let mut most = 0;
         let task = self.task;
         let body = task.body;
         for used in body.uses(local.value) {
-            if self.task.home(used.user) == local.tile {
+            if self.task.homes.at(used.user) == local.tile {
                 most = used.back.max(most);
             }
         }
@@ -107,11 +107,39 @@ impl Plan<'_> {
     }
 
     /// What a local is taken for in a step before the first row, where it is used from there.
-    pub(crate) fn first_of(&self, local: usize, step: usize) -> Option<u32> {
+    pub(crate) fn first_of(&self, local: LocalId, step: usize) -> Option<u32> {
         if step.saturating_add(self.looked_back(local)) < self.lead || step >= self.lead {
             return None;
         }
-        self.first_word(self.task.local(local).value, step)
+        self.first_word(self.task.locals.at(local).value, step)
+    }
+}
+
+/// The times from one on, up to another that is not among them.
+#[derive(Clone, Copy)]
+pub(crate) struct Times {
+    pub(crate) from: usize,
+    pub(crate) until: usize,
+}
+
+/// The first and the last cycle in which something is done in the first step.
+#[derive(Clone, Copy)]
+pub(crate) struct Span {
+    pub(crate) first: usize,
+    pub(crate) last: usize,
+}
+
+/// The span so far, widened to a time.
+pub(crate) fn with_time(span: Option<Span>, time: usize) -> Span {
+    match span {
+        Some(Span { first, last }) => Span {
+            first: time.min(first),
+            last: time.max(last),
+        },
+        None => Span {
+            first: time,
+            last: time,
+        },
     }
 }
 

@@ -1,8 +1,8 @@
 //! The registers of tiles.
-use crate::coloring::{Arc, Colored, colored_arcs};
+use crate::coloring::{Arc, Colored, LifeId, colored_arcs};
 use crate::lives::{Held, Life, last_use};
-use raw_frame::Table;
-use raw_modulo::{Schedule, Task, operand_number};
+use raw_frame::{Numbered, Register, Table, TileId};
+use raw_modulo::{ConstantId, LocalId, Schedule, Task};
 use std::alloc::{AllocError, Global};
 
 /// The registers that hold values and constants. Registers 1 and 2 hold what is used at once, and 3 counts.
@@ -22,94 +22,82 @@ const MOST_ROWS: usize = 128;
 pub(crate) struct Registers {
     /// How many rows of the body a loop has.
     pub(crate) rows: usize,
-    /// The register of each local in each of these rows; 0 for none.
-    locals: Table<u8>,
-    /// The same of constants that are loaded for a value.
-    loaded: Table<u8>,
-    /// The same of operands that are loaded.
-    operands: Table<u8>,
+    /// How many locals there are, and how many values.
+    locals: usize,
+    values: usize,
+    /// The register of each thing that is held, in each of these rows.
+    held: Table<usize, Option<Register>>,
     /// The register of each constant that is kept.
-    constants: Table<u8>,
+    pub(crate) constants: Table<ConstantId, Option<Register>>,
+}
+
+// The register at a place of those that hold values and constants.
+fn free_register(place: usize) -> Option<Register> {
+    match FREE.get(place) {
+        Some(number) => Some(Register(*number)),
+        None => None,
+    }
 }
 
 /// A tile that has too few registers, and how many too few.
 #[derive(Clone, Copy)]
 pub(crate) struct Crowded {
-    pub(crate) tile: usize,
+    pub(crate) tile: TileId,
     pub(crate) over: usize,
 }
 
 impl Registers {
-    // The place of a row among those of a loop.
-    fn place(&self, number: usize, row: usize) -> usize {
+    // The place of what is held in a row: locals come first, then constants of values, then operands.
+    fn place(&self, held: Held, row: usize) -> usize {
+        let number = match held {
+            Held::Local(local) => local.0,
+            Held::Constant(value) => self.locals.saturating_add(value.0),
+            Held::Operand(operand) => self
+                .locals
+                .saturating_add(self.values)
+                .saturating_add(operand.number()),
+        };
         let row = row.checked_rem(self.rows).unwrap_or(0);
         number.saturating_mul(self.rows).saturating_add(row)
     }
 
-    /// The register that holds something of a row; 0 for none.
-    pub(crate) fn at(&self, held: Held, row: usize) -> u8 {
-        match held {
-            Held::Local(local) => self.locals.at(self.place(local, row)),
-            Held::Constant(value) => self.loaded.at(self.place(value, row)),
-            Held::Operand(operand) => self.operands.at(self.place(operand, row)),
-        }
-    }
-
-    // From now on a register holds something of a row.
-    fn put(&mut self, held: Held, row: usize, register: u8) {
-        match held {
-            Held::Local(local) => {
-                let place = self.place(local, row);
-                self.locals.put(place, register);
-            }
-            Held::Constant(value) => {
-                let place = self.place(value, row);
-                self.loaded.put(place, register);
-            }
-            Held::Operand(operand) => {
-                let place = self.place(operand, row);
-                self.operands.put(place, register);
-            }
-        }
-    }
-
-    /// The register of a constant; 0 for none.
-    pub(crate) fn constant(&self, number: usize) -> u8 {
-        self.constants.at(number)
+    /// The register that holds something of a row. Where none does, it is register 0, which forgets what is written.
+    pub(crate) fn at(&self, held: Held, row: usize) -> Register {
+        let register = self.held.at(self.place(held, row));
+        register.unwrap_or(Register::ZERO)
     }
 
     // No register holds anything.
     fn new(alloc: Global, task: &Task<'_>, rows: usize) -> Result<Registers, AllocError> {
-        let count = task.body.count();
-        let operands = operand_number(count, 0);
+        let (locals, values) = (task.locals.size(), task.body.count());
+        let count = values.saturating_mul(3).saturating_add(locals);
         Ok(Registers {
             rows,
-            locals: Table::new(alloc, task.local_count().saturating_mul(rows), 0)?,
-            loaded: Table::new(alloc, count.saturating_mul(rows), 0)?,
-            operands: Table::new(alloc, operands.saturating_mul(rows), 0)?,
-            constants: Table::new(alloc, task.constant_count(), 0)?,
+            locals,
+            values,
+            held: Table::new(alloc, count.saturating_mul(rows), None)?,
+            constants: Table::new(alloc, task.constants.size(), None)?,
         })
     }
 
     // The registers of arcs, behind so many that are taken.
     fn put_colored(&mut self, colored: &[Colored], lives: &[Life], taken: usize) {
         for one in colored {
-            if let Some(life) = lives.get(one.arc.life) {
-                let place = taken.saturating_add(one.color);
-                let register = FREE.get(place).copied().unwrap_or(0);
-                self.put(life.held, one.arc.row, register);
+            if let Some(life) = lives.get(one.arc.life.0) {
+                let register = free_register(taken.saturating_add(one.color));
+                let place = self.place(life.held, one.arc.row);
+                self.held.put(place, register);
             }
         }
     }
 
     // The registers of the constants of a tile; how many there are.
-    fn put_constants(&mut self, task: &Task<'_>, tile: usize) -> usize {
+    fn put_constants(&mut self, task: &Task<'_>, tile: TileId) -> usize {
         let mut taken: usize = 0;
-        for number in 0..task.constant_count() {
-            let constant = task.constant(number);
+        for number in (0..task.constants.size()).map(ConstantId) {
+            let constant = task.constants.at(number);
             if constant.tile == tile && constant.is_kept {
-                let register = FREE.get(taken).copied().unwrap_or(0);
-                self.constants.put(number, register);
+                self.constants.put(number, free_register(taken));
                 taken = taken.saturating_add(1);
             }
         }
@@ -122,14 +110,32 @@ impl Registers {
         alloc: Global,
         task: &Task<'_>,
         lives: &[Life],
-        tile: usize,
+        tile: TileId,
         interval: usize,
     ) -> Result<usize, AllocError> {
         let taken = self.put_constants(task, tile);
-        let arcs = arcs_of(alloc, lives, tile, self.rows, interval)?;
-        let (colored, count) = colored_arcs(alloc, &arcs, self.rows.saturating_mul(interval))?;
+        let round = Round {
+            rows: self.rows,
+            interval,
+        };
+        let arcs = arcs_of(alloc, lives, tile, round)?;
+        let (colored, count) = colored_arcs(alloc, &arcs, round.cycles())?;
         self.put_colored(&colored, lives, taken);
         Ok(taken.saturating_add(count).saturating_sub(FREE.len()))
+    }
+}
+
+/// The rows of the body that go through a loop, each so many cycles behind the one before.
+#[derive(Clone, Copy)]
+struct Round {
+    rows: usize,
+    interval: usize,
+}
+
+impl Round {
+    // How many cycles it has.
+    fn cycles(self) -> usize {
+        self.rows.saturating_mul(self.interval)
     }
 }
 
@@ -137,16 +143,13 @@ impl Registers {
 fn arcs_of(
     alloc: Global,
     lives: &[Life],
-    tile: usize,
-    rows: usize,
-    interval: usize,
+    tile: TileId,
+    round: Round,
 ) -> Result<Vec<Arc>, AllocError> {
     let mut arcs = Vec::new(alloc);
-    for number in 0..lives.len() {
-        if let Some(life) = lives.get(number) {
-            if life.tile == tile {
-                add_arcs(&mut arcs, *life, number, rows, interval)?;
-            }
+    for (number, life) in lives.iter().enumerate() {
+        if life.tile == tile {
+            add_arcs(&mut arcs, *life, LifeId(number), round)?;
         }
     }
     arcs.sort()?;
@@ -157,16 +160,14 @@ fn arcs_of(
 fn add_arcs(
     arcs: &mut Vec<Arc>,
     life: Life,
-    number: usize,
-    rows: usize,
-    interval: usize,
+    number: LifeId,
+    round: Round,
 ) -> Result<(), AllocError> {
-    let round = rows.saturating_mul(interval);
-    for row in 0..rows {
+    for row in 0..round.rows {
         let start = life.from.saturating_add(1);
-        let start = start.saturating_add(row.saturating_mul(interval));
+        let start = start.saturating_add(row.saturating_mul(round.interval));
         arcs.push(Arc {
-            start: start.checked_rem(round).unwrap_or(0),
+            start: start.checked_rem(round.cycles()).unwrap_or(0),
             shortness: usize::MAX.saturating_sub(life.length()),
             life: number,
             row,
@@ -176,12 +177,12 @@ fn add_arcs(
 }
 
 // How many rows pass from the store of a local to its last use.
-fn rows_stored(task: &Task<'_>, schedule: &Schedule<'_>, number: usize) -> usize {
-    match schedule.stored(number) {
+fn rows_stored(task: &Task<'_>, schedule: &Schedule<'_>, number: LocalId) -> usize {
+    match schedule.stored.at(number) {
         Some(stored) => {
-            let last = last_use(task, schedule, task.local(number), stored);
+            let last = last_use(task, schedule, task.locals.at(number), stored);
             let cycles = last.saturating_sub(stored);
-            let rows = cycles.checked_div(schedule.interval()).unwrap_or(0);
+            let rows = cycles.checked_div(schedule.interval).unwrap_or(0);
             rows.saturating_add(2)
         }
         None => 0,
@@ -194,9 +195,9 @@ fn least_round(task: &Task<'_>, schedule: &Schedule<'_>, lives: &[Life]) -> usiz
     for life in lives {
         round = life.length().max(round);
     }
-    for number in 0..task.local_count() {
+    for number in (0..task.locals.size()).map(LocalId) {
         let rows = rows_stored(task, schedule, number);
-        round = rows.saturating_mul(schedule.interval()).max(round);
+        round = rows.saturating_mul(schedule.interval).max(round);
     }
     round
 }
@@ -233,14 +234,14 @@ pub(crate) fn allot(
     lives: &[Life],
     all: usize,
 ) -> Result<Allotted, AllocError> {
-    let interval = schedule.interval();
+    let interval = schedule.interval;
     let round = least_round(task, schedule, lives);
     let Some(rows) = rows_of_loop(interval, round, all) else {
         return Ok(Allotted::TooLong);
     };
     let mut registers = Registers::new(alloc, task, rows)?;
     let mut crowded = Vec::new(alloc);
-    for tile in 0..task.site.part.tiles() {
+    for tile in (0..task.site.part.tiles()).map(TileId) {
         let over = registers.put_tile(alloc, task, lives, tile, interval)?;
         if over > 0 {
             crowded.push(Crowded { tile, over })?;

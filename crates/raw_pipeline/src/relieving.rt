@@ -1,16 +1,17 @@
 //! What tiles with too few registers give up.
 use crate::lives::{Held, Life};
 use crate::registers::Crowded;
-use raw_modulo::Task;
+use raw_frame::TileId;
+use raw_modulo::{ConstantId, LocalId, Task};
 use std::alloc::{AllocError, Global};
 
 /// What is not held in a register any more.
 #[derive(Clone, Copy, PartialEq, Eq, PartialOrd, Ord)]
 pub(crate) enum GivenUp {
     /// A local, which goes to memory.
-    Local(usize),
+    Local(LocalId),
     /// A constant, which is loaded where it is used.
-    Constant(usize),
+    Constant(ConstantId),
 }
 
 /// Something that may be given up.
@@ -40,7 +41,7 @@ fn cover(life: Life, slot: usize, interval: usize) -> usize {
 }
 
 // How many registers all lives of a tile take in a cycle.
-fn covered(lives: &[Life], tile: usize, slot: usize, interval: usize) -> usize {
+fn covered(lives: &[Life], tile: TileId, slot: usize, interval: usize) -> usize {
     let mut count: usize = 0;
     for life in lives {
         if life.tile == tile {
@@ -51,7 +52,7 @@ fn covered(lives: &[Life], tile: usize, slot: usize, interval: usize) -> usize {
 }
 
 // The cycle in which a tile takes most registers.
-fn peak(lives: &[Life], tile: usize, interval: usize) -> usize {
+fn peak(lives: &[Life], tile: TileId, interval: usize) -> usize {
     let mut peak = 0;
     let mut most = 0;
     for slot in 0..interval {
@@ -69,9 +70,9 @@ fn choice_of(task: &Task<'_>, life: Life, slot: usize, interval: usize) -> Optio
     let Held::Local(number) = life.held else {
         return None;
     };
-    let value = task.local(number).value;
+    let value = task.locals.at(number).value;
     let freed = cover(life, slot, interval);
-    if task.is_in_memory(number) || task.is_on_circle(value) || freed == 0 || life.length() < 4 {
+    if task.in_memory.at(number) || task.is_on_circle(value) || freed == 0 || life.length() < 4 {
         return None;
     }
     let stores = usize::from(!life.is_received);
@@ -92,8 +93,8 @@ fn choice_of(task: &Task<'_>, life: Life, slot: usize, interval: usize) -> Optio
 }
 
 // A constant that may be loaded where it is used.
-fn choice_of_constant(task: &Task<'_>, number: usize) -> Choice {
-    let uses = task.constant(number).uses;
+fn choice_of_constant(task: &Task<'_>, number: ConstantId) -> Choice {
+    let uses = task.constants.at(number).uses;
     Choice {
         badness: usize::MAX.saturating_sub(950_usize.checked_div(uses).unwrap_or(0)),
         relief: 1_000,
@@ -106,7 +107,7 @@ fn choices(
     alloc: Global,
     task: &Task<'_>,
     lives: &[Life],
-    tile: usize,
+    tile: TileId,
     interval: usize,
 ) -> Result<Vec<Choice>, AllocError> {
     let slot = peak(lives, tile, interval);
@@ -118,8 +119,8 @@ fn choices(
             }
         }
     }
-    for number in 0..task.constant_count() {
-        let constant = task.constant(number);
+    for number in (0..task.constants.size()).map(ConstantId) {
+        let constant = task.constants.at(number);
         if constant.tile == tile && constant.is_kept {
             choices.push(choice_of_constant(task, number))?;
         }

@@ -1,9 +1,9 @@
 //! The search for programs of a stream.
-use crate::attempt::{Pipeline, Spread, Style, attempt};
+use crate::attempt::{Pipeline, Spread, Style, attempt, most};
 use crate::plan::Rows;
 use crate::regions::regions;
-use raw_body::{Body, Components, Order, Site, body_of};
-use raw_frame::{Part, Table};
+use raw_body::{Body, Components, GroupId, Order, Site, body_of};
+use raw_frame::{Part, Table, TileId, ValueId};
 use raw_modulo::{Rule, needed_constant};
 use raw_spread::{Aim, spread};
 use raw_stream::StreamFlow;
@@ -42,7 +42,7 @@ struct Search<'a> {
 // How many values the largest circle has, or 1.
 fn circle_of(components: &Components) -> usize {
     let mut most = 1;
-    for group in 0..components.count() {
+    for group in (0..components.count()).map(GroupId) {
         most = components.members(group).len().max(most);
     }
     most
@@ -52,29 +52,22 @@ fn circle_of(components: &Components) -> usize {
 fn port_bound(alloc: Global, body: &Body, site: Site<'_>) -> Result<usize, AllocError> {
     let given = body.given(alloc, site.sources.len())?;
     let gotten = body.gotten(alloc, site.sinks.len())?;
-    let mut bound = 1;
-    for port in 0..given.size() {
-        bound = given.at(port).max(bound);
-    }
-    for port in 0..gotten.size() {
-        bound = gotten.at(port).max(bound);
-    }
-    Ok(bound)
+    Ok(most(&given).max(most(&gotten)).max(1))
 }
 
 // Of each value whether a constant of it needs a register.
-fn constants_of(alloc: Global, body: &Body) -> Result<Table<bool>, AllocError> {
+fn constants_of(alloc: Global, body: &Body) -> Result<Table<ValueId, bool>, AllocError> {
     let mut constants = Table::new(alloc, body.count(), false)?;
-    for value in 0..body.count() {
+    for value in (0..body.count()).map(ValueId) {
         constants.put(value, needed_constant(body.origin(value)).is_some());
     }
     Ok(constants)
 }
 
 // The tile with the least load.
-fn least_loaded(tiles: &[usize], loads: &Table<usize>) -> usize {
+fn least_loaded(tiles: &[TileId], loads: &Table<TileId, usize>) -> TileId {
     let mut least = usize::MAX;
-    let mut best = 0;
+    let mut best = TileId::CORNER;
     for tile in tiles {
         if loads.at(*tile) < least {
             least = loads.at(*tile);
@@ -85,7 +78,12 @@ fn least_loaded(tiles: &[usize], loads: &Table<usize>) -> usize {
 }
 
 // A value is at a tile.
-fn settle(homes: &mut Table<usize>, loads: &mut Table<usize>, value: usize, tile: usize) {
+fn settle(
+    homes: &mut Table<ValueId, TileId>,
+    loads: &mut Table<TileId, usize>,
+    value: ValueId,
+    tile: TileId,
+) {
     homes.put(value, tile);
     loads.put(tile, loads.at(tile).saturating_add(1));
 }
@@ -95,20 +93,20 @@ fn homes_by_rows(
     alloc: Global,
     body: &Body,
     components: &Components,
-    tiles: &[usize],
+    tiles: &[TileId],
     all: usize,
-) -> Result<Table<usize>, AllocError> {
-    let mut homes = Table::new(alloc, body.count(), 0)?;
+) -> Result<Table<ValueId, TileId>, AllocError> {
+    let mut homes = Table::new(alloc, body.count(), TileId::CORNER)?;
     let mut loads = Table::new(alloc, all, 0)?;
-    for value in 0..body.count() {
+    for value in (0..body.count()).map(ValueId) {
         let place = body.row_of(value).saturating_mul(tiles.len());
-        let place = place.checked_div(body.rows()).unwrap_or(0);
-        let tile = tiles.get(place).copied().unwrap_or(0);
+        let place = place.checked_div(body.rows).unwrap_or(0);
+        let tile = tiles.get(place).copied().unwrap_or(TileId::CORNER);
         if !components.is_on_circle(value) {
             settle(&mut homes, &mut loads, value, tile);
         }
     }
-    for group in 0..components.count() {
+    for group in (0..components.count()).map(GroupId) {
         let members = components.members(group);
         if members.len() > 1 {
             let tile = least_loaded(tiles, &loads);
@@ -154,7 +152,7 @@ impl Search<'_> {
         alloc: Global,
         body: &Body,
         components: &Components,
-        homes: &Table<usize>,
+        homes: &Table<ValueId, TileId>,
         rules: &[Rule],
         is_even: bool,
     ) -> Result<(), AllocError> {
@@ -182,7 +180,7 @@ impl Search<'_> {
     }
 
     // Tries one tile.
-    fn try_one(&mut self, alloc: Global, tile: usize) -> Result<(), AllocError> {
+    fn try_one(&mut self, alloc: Global, tile: TileId) -> Result<(), AllocError> {
         if !self.may_try(1, 1) {
             return Ok(());
         }
@@ -202,7 +200,7 @@ impl Search<'_> {
     }
 
     // Tries so many rows at once, each on tiles of its own.
-    fn try_rows(&mut self, alloc: Global, tiles: &[usize], rows: usize) -> Result<(), AllocError> {
+    fn try_rows(&mut self, alloc: Global, tiles: &[TileId], rows: usize) -> Result<(), AllocError> {
         if !self.may_split(rows) || !self.may_try(rows, tiles.len()) {
             return Ok(());
         }
@@ -240,7 +238,7 @@ impl Search<'_> {
     fn try_spread(
         &mut self,
         alloc: Global,
-        tiles: &[usize],
+        tiles: &[TileId],
         rows: usize,
     ) -> Result<(), AllocError> {
         if !self.is_small(rows, tiles.len()) || !self.may_try(rows, tiles.len()) {
@@ -259,9 +257,9 @@ impl Search<'_> {
     }
 
     // Tries some tiles.
-    fn try_region(&mut self, alloc: Global, tiles: &[usize]) -> Result<(), AllocError> {
+    fn try_region(&mut self, alloc: Global, tiles: &[TileId]) -> Result<(), AllocError> {
         if tiles.len() < 2 {
-            return self.try_one(alloc, tiles.first().copied().unwrap_or(0));
+            return self.try_one(alloc, tiles.first().copied().unwrap_or(TileId::CORNER));
         }
         self.try_rows(alloc, tiles, tiles.len())?;
         self.try_rows(alloc, tiles, tiles.len() / 2)?;

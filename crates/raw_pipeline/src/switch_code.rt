@@ -1,6 +1,7 @@
 //! The programs of switches.
 
-use crate::plan::{Plan, first_step};
+use crate::plan::{Plan, Span, Times, first_step, with_time};
+use raw_frame::ValueId;
 use raw_grid::{Dir, End, Net};
 use raw_switch_isa::{MAX_SWITCH_CODE, SwitchIns, SwitchSource, route_codes};
 use std::alloc::{AllocError, Global};
@@ -9,17 +10,21 @@ use std::alloc::{AllocError, Global};
 #[derive(Clone, Copy)]
 pub(crate) struct Passing {
     time: usize,
-    value: usize,
+    value: ValueId,
     net: Net,
     from: Dir,
     to: Dir,
 }
 
-/// A passing by its number, in a cycle.
+/// A passing by its place among those of a switch.
+#[derive(Clone, Copy, PartialEq, Eq, PartialOrd, Ord)]
+struct PassingId(usize);
+
+/// A passing in a cycle.
 #[derive(Clone, Copy, PartialEq, Eq, PartialOrd, Ord)]
 struct Event {
     time: usize,
-    passing: usize,
+    passing: PassingId,
 }
 
 /// The program of a switch, and what its tile has to send it first: how often it comes back to the start of its loop.
@@ -35,7 +40,7 @@ pub(crate) fn passings(alloc: Global, plan: &Plan<'_>) -> Result<Vec<Vec<Passing
     for _ in 0..plan.task.site.part.tiles() {
         lists.push(Vec::new(alloc))?;
     }
-    for value in 0..plan.task.body.count() {
+    for value in (0..plan.task.body.count()).map(ValueId) {
         add_passings(&mut lists, plan, value)?;
     }
     Ok(lists)
@@ -45,16 +50,16 @@ pub(crate) fn passings(alloc: Global, plan: &Plan<'_>) -> Result<Vec<Vec<Passing
 fn add_passings(
     lists: &mut Vec<Vec<Passing>>,
     plan: &Plan<'_>,
-    value: usize,
+    value: ValueId,
 ) -> Result<(), AllocError> {
-    let Some(message) = plan.schedule.message(value) else {
+    let Some(message) = plan.schedule.messages.at(value) else {
         return Ok(());
     };
     let Some(route) = plan.task.route(value, message.shape) else {
         return Ok(());
     };
     for hop in route.hops() {
-        if let Some(list) = lists.get_mut(hop.tile) {
+        if let Some(list) = lists.get_mut(hop.tile.0) {
             list.push(Passing {
                 time: message.first.saturating_add(hop.after),
                 value,
@@ -68,14 +73,10 @@ fn add_passings(
 }
 
 // The first and the last cycle in which something passes in the first step.
-fn span(passings: &[Passing]) -> Option<(usize, usize)> {
+fn span(passings: &[Passing]) -> Option<Span> {
     let mut span = None;
     for passing in passings {
-        let time = passing.time;
-        span = match span {
-            Some((first, last)) => Some((time.min(first), time.max(last))),
-            None => Some((time, time)),
-        };
+        span = Some(with_time(span, passing.time));
     }
     span
 }
@@ -85,15 +86,14 @@ fn add_events(
     events: &mut Vec<Event>,
     plan: &Plan<'_>,
     passing: Passing,
-    number: usize,
-    from: usize,
-    until: usize,
+    number: PassingId,
+    times: Times,
 ) -> Result<(), AllocError> {
-    let interval = plan.interval();
-    let first = first_step(passing.time, from, interval);
+    let interval = plan.schedule.interval;
+    let first = first_step(passing.time, times.from, interval);
     for step in first..plan.all() {
         let time = passing.time.saturating_add(step.saturating_mul(interval));
-        if time >= until || !plan.is_there(passing.value, step.saturating_add(plan.lead)) {
+        if time >= times.until || !plan.is_there(passing.value, step.saturating_add(plan.lead)) {
             break;
         }
         events.push(Event {
@@ -109,14 +109,11 @@ fn events(
     alloc: Global,
     plan: &Plan<'_>,
     passings: &[Passing],
-    from: usize,
-    until: usize,
+    times: Times,
 ) -> Result<Vec<Event>, AllocError> {
     let mut events = Vec::new(alloc);
-    for number in 0..passings.len() {
-        if let Some(passing) = passings.get(number) {
-            add_events(&mut events, plan, *passing, number, from, until)?;
-        }
+    for (number, passing) in passings.iter().enumerate() {
+        add_events(&mut events, plan, *passing, PassingId(number), times)?;
     }
     events.sort()?;
     Ok(events)
@@ -148,7 +145,7 @@ fn instructions(
             routes = [0; 10];
         }
         time = Some(event.time);
-        if let Some(passing) = passings.get(event.passing) {
+        if let Some(passing) = passings.get(event.passing.0) {
             add_route(&mut routes, *passing);
         }
     }
@@ -174,8 +171,8 @@ impl SwitchCode<'_> {
     }
 
     // What passes from one time to another.
-    fn straight(&mut self, alloc: Global, from: usize, until: usize) -> Result<(), AllocError> {
-        let events = events(alloc, self.plan, self.passings, from, until)?;
+    fn straight(&mut self, alloc: Global, times: Times) -> Result<(), AllocError> {
+        let events = events(alloc, self.plan, self.passings, times)?;
         for routes in &instructions(alloc, &events, self.passings)? {
             self.push(SwitchIns::nop(), routes)?;
         }
@@ -195,51 +192,49 @@ impl SwitchCode<'_> {
 
     // What passes in each turn of the loop, the first of which begins at a time.
     fn turn(&mut self, alloc: Global, from: usize) -> Result<(), AllocError> {
-        let until = from.saturating_add(self.plan.interval());
-        let events = events(alloc, self.plan, self.passings, from, until)?;
+        let until = from.saturating_add(self.plan.schedule.interval);
+        let events = events(alloc, self.plan, self.passings, Times { from, until })?;
         let list = instructions(alloc, &events, self.passings)?;
         let start = self.code.len().min(MAX_SWITCH_CODE) as u16;
-        for place in 0..list.len() {
-            if let Some(routes) = list.get(place) {
-                let is_last = place.saturating_add(1) == list.len();
-                let ins = self.turn_ins(is_last, start);
-                self.push(ins, routes)?;
-            }
+        for (place, routes) in list.iter().enumerate() {
+            let is_last = place.saturating_add(1) == list.len();
+            let ins = self.turn_ins(is_last, start);
+            self.push(ins, routes)?;
         }
         Ok(())
     }
 
     // All that passes; how often the loop is come back to, where there is one.
-    fn all(
-        &mut self,
-        alloc: Global,
-        first: usize,
-        last: usize,
-    ) -> Result<Option<usize>, AllocError> {
+    fn all(&mut self, alloc: Global, span: Span) -> Result<Option<usize>, AllocError> {
+        let Span { first, last } = span;
+        let before = Times {
+            from: first,
+            until: last,
+        };
         let plan = self.plan;
-        let interval = plan.interval();
+        let interval = plan.schedule.interval;
         let whole = first.saturating_add(plan.whole().saturating_mul(interval));
         let turns = whole
             .saturating_sub(last)
             .checked_div(interval)
             .unwrap_or(0);
         let all = plan.all().saturating_mul(interval);
-        let end = last.saturating_add(all).saturating_add(1);
+        let until = last.saturating_add(all).saturating_add(1);
         if turns < 2 {
-            self.straight(alloc, first, end)?;
+            self.straight(alloc, Times { until, ..before })?;
             return Ok(None);
         }
         if plan.rows.are_endless {
-            self.straight(alloc, first, last)?;
+            self.straight(alloc, before)?;
             self.turn(alloc, last)?;
             return Ok(None);
         }
         self.code
             .push(SwitchIns::move_from(0, SwitchSource::Input(4)))?;
-        self.straight(alloc, first, last)?;
+        self.straight(alloc, before)?;
         self.turn(alloc, last)?;
-        let done = last.saturating_add(turns.saturating_mul(interval));
-        self.straight(alloc, done, end)?;
+        let from = last.saturating_add(turns.saturating_mul(interval));
+        self.straight(alloc, Times { from, until })?;
         Ok(Some(turns.saturating_sub(1)))
     }
 }
@@ -256,7 +251,7 @@ pub(crate) fn switch_program(
         code: Vec::new(alloc),
     };
     let loops = match span(passings) {
-        Some((first, last)) => program.all(alloc, first, last)?,
+        Some(span) => program.all(alloc, span)?,
         None => None,
     };
     let code = program.code;

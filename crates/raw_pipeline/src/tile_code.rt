@@ -1,27 +1,25 @@
 //! The programs of tiles.
 use crate::lives::Held;
 use crate::memory::{Memory, as_cell};
-use crate::plan::{Plan, first_step};
-use raw_grid::Net;
-use raw_modulo::operand_number;
-use raw_selection::{copy, load, register, store};
+use crate::plan::{Plan, Span, Times, first_step, with_time};
+use raw_body::Position;
+use raw_frame::{Register, TileId, ValueId};
+use raw_modulo::{ConstantId, LocalId, OperandId, RowLocal};
+use raw_selection::{Cell, copy, load, store};
 use raw_tile_isa::{MAX_TILE_CODE, NETWORK_1, NETWORK_2, TileIns, TileOp, is_one, li};
 use std::alloc::{AllocError, Global};
 
 /// What a tile does in each step.
 #[derive(Clone, Copy)]
 enum Deed {
-    Make(usize),
-    /// Receives a local.
-    Receive(usize),
-    /// Sends a value.
-    Send(usize),
+    Make(ValueId),
+    Receive(LocalId),
+    Send(ValueId),
     /// Loads the constant of a value.
-    LoadConstant(usize),
+    LoadConstant(ValueId),
     /// Loads an operand of a value.
-    LoadOperand { value: usize, place: usize },
-    /// Stores a local.
-    Store(usize),
+    LoadOperand { value: ValueId, position: Position },
+    Store(LocalId),
 }
 
 /// A deed and its time in the first step.
@@ -31,11 +29,15 @@ struct Timed {
     deed: Deed,
 }
 
-/// A deed by its number, in a cycle and a step.
+/// A deed by its place among those of a tile.
+#[derive(Clone, Copy, PartialEq, Eq, PartialOrd, Ord)]
+struct DeedId(usize);
+
+/// A deed in a cycle and a step.
 #[derive(Clone, Copy, PartialEq, Eq, PartialOrd, Ord)]
 struct Event {
     time: usize,
-    number: usize,
+    deed: DeedId,
     step: usize,
 }
 
@@ -43,25 +45,17 @@ struct Event {
 #[derive(Drop)]
 pub(crate) struct TileCode<'a> {
     pub(crate) plan: &'a Plan<'a>,
-    pub(crate) tile: usize,
+    pub(crate) tile: TileId,
     pub(crate) memory: Memory,
     deeds: Vec<Timed>,
     code: Vec<TileIns>,
 }
 
-/// A register for a word that is used at once.
-pub(crate) const SCRATCH: u8 = 1;
+/// The registers for words that are used at once, one for each operand.
+pub(crate) const SCRATCH: [Register; 2] = [Register(1), Register(2)];
 
 /// The register that counts the turns of a loop.
 const COUNTER: u8 = 3;
-
-/// The register that stands for a network.
-pub(crate) fn network(net: Net) -> u8 {
-    match net {
-        Net::One => NETWORK_1,
-        Net::Two => NETWORK_2,
-    }
-}
 
 impl TileCode<'_> {
     /// Adds an instruction.
@@ -71,14 +65,14 @@ impl TileCode<'_> {
     }
 
     /// Loads a word into a register, or sends it on a network.
-    pub(crate) fn load_word(&mut self, to: u8, word: u32) -> Result<(), AllocError> {
-        let is_network = to == NETWORK_1 || to == NETWORK_2;
+    pub(crate) fn load_word(&mut self, to: Register, word: u32) -> Result<(), AllocError> {
+        let is_network = to.0 == NETWORK_1 || to.0 == NETWORK_2;
         let at = if is_network && !is_one(word) {
-            SCRATCH
+            SCRATCH[0]
         } else {
             to
         };
-        let (first, second) = li(register(at), word);
+        let (first, second) = li(at.field(), word);
         self.push(first)?;
         if let Some(second) = second {
             self.push(second)?;
@@ -98,43 +92,43 @@ impl TileCode<'_> {
     }
 
     // The deeds for a value that is made here.
-    fn add_value(&mut self, value: usize) -> Result<(), AllocError> {
+    fn add_value(&mut self, value: ValueId) -> Result<(), AllocError> {
         let schedule = self.plan.schedule;
         if self.plan.task.body.origin(value).is_input() {
             return Ok(());
         }
-        self.add(schedule.made(value), Deed::Make(value))?;
-        self.add(schedule.sent(value), Deed::Send(value))?;
-        self.add(schedule.constant_loaded(value), Deed::LoadConstant(value))?;
-        for place in 0..2 {
-            let time = schedule.operand_loaded(value, place);
-            self.add(time, Deed::LoadOperand { value, place })?;
+        self.add(schedule.made.at(value), Deed::Make(value))?;
+        self.add(schedule.sent.at(value), Deed::Send(value))?;
+        self.add(schedule.constants.at(value), Deed::LoadConstant(value))?;
+        for position in Position::BOTH {
+            let time = schedule.loaded.at(OperandId::of(value, position));
+            self.add(time, Deed::LoadOperand { value, position })?;
         }
         Ok(())
     }
 
     // The deeds for a local of this tile.
-    fn add_local(&mut self, local: usize) -> Result<(), AllocError> {
+    fn add_local(&mut self, local: LocalId) -> Result<(), AllocError> {
         let schedule = self.plan.schedule;
-        match schedule.coming(local) {
+        match schedule.comings.at(local) {
             Some(coming) if coming.taken.is_none() => {
                 self.add(Some(coming.received), Deed::Receive(local))
             }
             Some(_) => Ok(()),
-            None => self.add(schedule.stored(local), Deed::Store(local)),
+            None => self.add(schedule.stored.at(local), Deed::Store(local)),
         }
     }
 
     // All deeds.
     fn add_deeds(&mut self) -> Result<(), AllocError> {
         let task = self.plan.task;
-        for value in 0..task.body.count() {
-            if task.home(value) == self.tile {
+        for value in (0..task.body.count()).map(ValueId) {
+            if task.homes.at(value) == self.tile {
                 self.add_value(value)?;
             }
         }
-        for local in 0..task.local_count() {
-            if task.local(local).tile == self.tile {
+        for local in (0..task.locals.size()).map(LocalId) {
+            if task.locals.at(local).tile == self.tile {
                 self.add_local(local)?;
             }
         }
@@ -142,14 +136,10 @@ impl TileCode<'_> {
     }
 
     // The first and the last cycle in which something is done in the first step.
-    fn span(&self) -> Option<(usize, usize)> {
+    fn span(&self) -> Option<Span> {
         let mut span = None;
         for deed in &self.deeds {
-            let time = deed.time;
-            span = match span {
-                Some((first, last)) => Some((time.min(first), time.max(last))),
-                None => Some((time, time)),
-            };
+            span = Some(with_time(span, deed.time));
         }
         span
     }
@@ -158,29 +148,26 @@ impl TileCode<'_> {
     fn add_events(
         &self,
         events: &mut Vec<Event>,
-        number: usize,
-        from: usize,
-        until: usize,
+        timed: Timed,
+        deed: DeedId,
+        times: Times,
     ) -> Result<(), AllocError> {
-        let interval = self.plan.interval();
-        let Some(deed) = self.deeds.get(number) else {
-            return Ok(());
-        };
-        for step in first_step(deed.time, from, interval)..self.plan.end() {
-            let time = deed.time.saturating_add(step.saturating_mul(interval));
-            if time >= until {
+        let interval = self.plan.schedule.interval;
+        for step in first_step(timed.time, times.from, interval)..self.plan.end() {
+            let time = timed.time.saturating_add(step.saturating_mul(interval));
+            if time >= times.until {
                 break;
             }
-            events.push(Event { time, number, step })?;
+            events.push(Event { time, deed, step })?;
         }
         Ok(())
     }
 
     // What is done from one time to another.
-    fn straight(&mut self, alloc: Global, from: usize, until: usize) -> Result<(), AllocError> {
+    fn straight(&mut self, alloc: Global, times: Times) -> Result<(), AllocError> {
         let mut events = Vec::new(alloc);
-        for number in 0..self.deeds.len() {
-            self.add_events(&mut events, number, from, until)?;
+        for (deed, timed) in self.deeds.iter().enumerate() {
+            self.add_events(&mut events, *timed, DeedId(deed), times)?;
         }
         events.sort()?;
         for event in &events {
@@ -191,28 +178,28 @@ impl TileCode<'_> {
 
     // A deed in a step.
     fn event(&mut self, event: Event) -> Result<(), AllocError> {
-        let Some(deed) = self.deeds.get(event.number) else {
+        let Some(timed) = self.deeds.get(event.deed.0) else {
             return Ok(());
         };
         let step = event.step;
-        match deed.deed {
+        match timed.deed {
             Deed::Make(value) => self.make(value, step),
             Deed::Receive(local) => self.receive(local, step),
             Deed::Send(value) => self.send(value, step),
             Deed::LoadConstant(value) => self.load_constant(value, step),
-            Deed::LoadOperand { value, place } => self.load_operand(value, place, step),
+            Deed::LoadOperand { value, position } => self.load_operand(value, position, step),
             Deed::Store(local) => self.store(local, step),
         }
     }
 
     /// The register of a local in a step.
-    pub(crate) fn local_register(&self, local: usize, step: usize) -> u8 {
+    pub(crate) fn local_register(&self, local: LocalId, step: usize) -> Register {
         self.plan.registers.at(Held::Local(local), step)
     }
 
     // Takes a local for its first word, where a step is before the first row.
-    fn take_first(&mut self, local: usize, step: usize) -> Result<(), AllocError> {
-        if self.plan.task.is_in_memory(local) {
+    fn take_first(&mut self, local: LocalId, step: usize) -> Result<(), AllocError> {
+        if self.plan.task.in_memory.at(local) {
             return Ok(());
         }
         let to = self.local_register(local, step);
@@ -223,41 +210,38 @@ impl TileCode<'_> {
     }
 
     // Receives a local.
-    fn receive(&mut self, local: usize, step: usize) -> Result<(), AllocError> {
+    fn receive(&mut self, local: LocalId, step: usize) -> Result<(), AllocError> {
         if step < self.plan.lead {
             return self.take_first(local, step);
         }
-        let value = self.plan.task.local(local).value;
-        let Some(coming) = self.plan.schedule.coming(local) else {
+        let value = self.plan.task.locals.at(local).value;
+        let Some(coming) = self.plan.schedule.comings.at(local) else {
             return Ok(());
         };
         if !self.plan.is_there(value, step) {
             return Ok(());
         }
-        let from = network(coming.net);
-        let to = self.local_register(local, step);
-        let cell = self.memory.of_local(local, step);
-        if self.plan.task.is_in_memory(local) {
-            self.push(store(from, cell))
-        } else {
-            self.push(copy(to, from))
+        let from = Register::of_network(coming.net);
+        match self.memory.of_local(local, step) {
+            Some(cell) => self.push(store(from, cell)),
+            None => self.push(copy(self.local_register(local, step), from)),
         }
     }
 
     // Sends a value from its register.
-    fn send(&mut self, value: usize, step: usize) -> Result<(), AllocError> {
+    fn send(&mut self, value: ValueId, step: usize) -> Result<(), AllocError> {
         let local = self.plan.task.first_local(value);
         let from = self.local_register(local, step);
-        match self.plan.schedule.message(value) {
+        match self.plan.schedule.messages.at(value) {
             Some(message) if self.plan.is_there(value, step) => {
-                self.push(copy(network(message.net), from))
+                self.push(copy(Register::of_network(message.net), from))
             }
             _ => Ok(()),
         }
     }
 
     // Loads the constant of a value.
-    fn load_constant(&mut self, value: usize, step: usize) -> Result<(), AllocError> {
+    fn load_constant(&mut self, value: ValueId, step: usize) -> Result<(), AllocError> {
         if !self.plan.is_there(value, step) {
             return Ok(());
         }
@@ -270,60 +254,77 @@ impl TileCode<'_> {
     }
 
     // Loads an operand of a value.
-    fn load_operand(&mut self, value: usize, place: usize, step: usize) -> Result<(), AllocError> {
+    fn load_operand(
+        &mut self,
+        value: ValueId,
+        position: Position,
+        step: usize,
+    ) -> Result<(), AllocError> {
         if !self.plan.is_there(value, step) {
             return Ok(());
         }
-        let Some((local, back)) = self.plan.task.operand(value, place) else {
+        let Some(RowLocal { local, back }) = self.plan.task.operand(value, position) else {
             return Ok(());
         };
-        let held = Held::Operand(operand_number(value, place));
+        let held = Held::Operand(OperandId::of(value, position));
         let to = self.plan.registers.at(held, step);
-        let cell = self.memory.of_local(local, step.saturating_sub(back));
-        self.push(load(to, cell))
+        match self.memory.of_local(local, step.saturating_sub(back)) {
+            Some(cell) => self.push(load(to, cell)),
+            None => Ok(()),
+        }
     }
 
     // Stores a local that was made here.
-    fn store(&mut self, local: usize, step: usize) -> Result<(), AllocError> {
-        if !self.plan.is_there(self.plan.task.local(local).value, step) {
+    fn store(&mut self, local: LocalId, step: usize) -> Result<(), AllocError> {
+        if !self
+            .plan
+            .is_there(self.plan.task.locals.at(local).value, step)
+        {
             return Ok(());
         }
         let from = self.local_register(local, step);
-        let cell = self.memory.of_local(local, step);
-        self.push(store(from, cell))
+        match self.memory.of_local(local, step) {
+            Some(cell) => self.push(store(from, cell)),
+            None => Ok(()),
+        }
     }
 
     // Takes a local that is not in memory for its first word.
-    pub(crate) fn take_made_first(&mut self, value: usize, step: usize) -> Result<(), AllocError> {
+    pub(crate) fn take_made_first(
+        &mut self,
+        value: ValueId,
+        step: usize,
+    ) -> Result<(), AllocError> {
         let local = self.plan.task.first_local(value);
-        if self.plan.task.local(local).comes {
+        if self.plan.task.locals.at(local).comes {
             return Ok(());
         }
         self.take_first(local, step)
     }
 
     // A word stands in a cell from the start on.
-    fn set_cell(&mut self, cell: u16, word: u32) -> Result<(), AllocError> {
-        self.load_word(SCRATCH, word)?;
-        self.push(store(SCRATCH, cell))
+    fn set_cell(&mut self, cell: Cell, word: u32) -> Result<(), AllocError> {
+        self.load_word(SCRATCH[0], word)?;
+        self.push(store(SCRATCH[0], cell))
     }
 
     // The constants in memory.
     fn set_words(&mut self) -> Result<(), AllocError> {
         for place in 0..self.memory.words().len() {
             let word = self.memory.words().get(place).copied().unwrap_or(0);
-            self.set_cell(as_cell(place.saturating_add(1)), word)?;
+            self.set_cell(as_cell(place), word)?;
         }
         Ok(())
     }
 
     // The first words of a local in memory.
-    fn set_local(&mut self, local: usize) -> Result<(), AllocError> {
+    fn set_local(&mut self, local: LocalId) -> Result<(), AllocError> {
         let plan = self.plan;
         for step in 0..plan.lead {
             if let Some(word) = plan.first_of(local, step) {
-                let cell = self.memory.of_local(local, step);
-                self.set_cell(cell, word)?;
+                if let Some(cell) = self.memory.of_local(local, step) {
+                    self.set_cell(cell, word)?;
+                }
             }
         }
         Ok(())
@@ -332,8 +333,8 @@ impl TileCode<'_> {
     // The first words of the locals in memory.
     fn set_locals(&mut self) -> Result<(), AllocError> {
         let plan = self.plan;
-        for local in 0..plan.task.local_count() {
-            if plan.task.local(local).tile == self.tile && plan.task.is_in_memory(local) {
+        for local in (0..plan.task.locals.size()).map(LocalId) {
+            if plan.task.locals.at(local).tile == self.tile && plan.task.in_memory.at(local) {
                 self.set_local(local)?;
             }
         }
@@ -343,11 +344,11 @@ impl TileCode<'_> {
     // The constants in registers.
     fn set_constants(&mut self) -> Result<(), AllocError> {
         let plan = self.plan;
-        for number in 0..plan.task.constant_count() {
-            let constant = plan.task.constant(number);
+        for number in (0..plan.task.constants.size()).map(ConstantId) {
+            let constant = plan.task.constants.at(number);
             if constant.tile == self.tile && constant.is_kept {
-                let to = plan.registers.constant(number);
-                self.load_word(to, constant.word)?;
+                let to = plan.registers.constants.at(number);
+                self.load_word(to.unwrap_or(Register::ZERO), constant.word)?;
             }
         }
         Ok(())
@@ -377,24 +378,23 @@ impl TileCode<'_> {
         }
     }
 
-    // The loop from a time on, and what is before it.
-    fn turn(
-        &mut self,
-        alloc: Global,
-        first: usize,
-        start: usize,
-        round: usize,
-    ) -> Result<(), AllocError> {
-        self.straight(alloc, first, start)?;
+    // What is before the loop, and the loop.
+    fn turn(&mut self, alloc: Global, before: Times, round: usize) -> Result<(), AllocError> {
+        self.straight(alloc, before)?;
         let place = self.code.len();
-        self.straight(alloc, start, start.saturating_add(round))?;
+        let turn = Times {
+            from: before.until,
+            until: before.until.saturating_add(round),
+        };
+        self.straight(alloc, turn)?;
         self.close_loop(place)
     }
 
     // All that is done: before the loop, in it, and behind it.
-    fn all(&mut self, alloc: Global, first: usize, last: usize) -> Result<(), AllocError> {
+    fn all(&mut self, alloc: Global, span: Span) -> Result<(), AllocError> {
+        let Span { first, last } = span;
         let plan = self.plan;
-        let interval = plan.interval();
+        let interval = plan.schedule.interval;
         let lead = plan.lead.saturating_mul(interval);
         let round = plan.registers.rows.saturating_mul(interval);
         let start = last
@@ -404,23 +404,27 @@ impl TileCode<'_> {
         let whole = first.saturating_add(whole);
         let turns = whole.saturating_sub(start).checked_div(round).unwrap_or(0);
         let end = plan.end().saturating_mul(interval);
-        let end = last.saturating_add(end).saturating_add(1);
+        let until = last.saturating_add(end).saturating_add(1);
+        let before = Times {
+            from: first,
+            until: start,
+        };
         if turns < 2 {
-            return self.straight(alloc, first, end);
+            return self.straight(alloc, Times { until, ..before });
         }
         if plan.rows.are_endless {
-            return self.turn(alloc, first, start, round);
+            return self.turn(alloc, before, round);
         }
-        self.load_word(COUNTER, turns.min(u32::MAX as usize) as u32)?;
-        self.turn(alloc, first, start, round)?;
-        let done = start.saturating_add(turns.saturating_mul(round));
-        self.straight(alloc, done, end)
+        self.load_word(Register(COUNTER), turns.min(u32::MAX as usize) as u32)?;
+        self.turn(alloc, before, round)?;
+        let from = start.saturating_add(turns.saturating_mul(round));
+        self.straight(alloc, Times { from, until })
     }
 
     // What is done before all rows.
     fn begin(&mut self, loops: Option<usize>) -> Result<(), AllocError> {
         if let Some(loops) = loops {
-            self.load_word(NETWORK_1, loops.min(u32::MAX as usize) as u32)?;
+            self.load_word(Register(NETWORK_1), loops.min(u32::MAX as usize) as u32)?;
         }
         self.set_words()?;
         self.set_locals()?;
@@ -432,7 +436,7 @@ impl TileCode<'_> {
 pub(crate) fn tile_program(
     alloc: Global,
     plan: &Plan<'_>,
-    tile: usize,
+    tile: TileId,
     loops: Option<usize>,
 ) -> Result<Option<Vec<TileIns>>, AllocError> {
     let mut program = TileCode {
@@ -444,8 +448,8 @@ pub(crate) fn tile_program(
     };
     program.add_deeds()?;
     program.begin(loops)?;
-    if let Some((first, last)) = program.span() {
-        program.all(alloc, first, last)?;
+    if let Some(span) = program.span() {
+        program.all(alloc, span)?;
     }
     if program.memory.fits() && program.code.len() < MAX_TILE_CODE {
         Ok(Some(program.code))

@@ -1,17 +1,21 @@
 //! Paths of values, each the most urgent user of the one before it.
-use raw_frame::Table;
+use raw_frame::{Table, ValueId};
 use raw_graph::Graph;
 use std::alloc::{AllocError, Global};
 
 /// The paths through a graph: each operation is on one.
 #[derive(Drop)]
 pub(crate) struct Paths {
-    pub(crate) next: Table<Option<usize>>,
-    pub(crate) before: Table<Option<usize>>,
+    pub(crate) next: Table<ValueId, Option<ValueId>>,
+    pub(crate) before: Table<ValueId, Option<ValueId>>,
 }
 
 // The most urgent user of a value.
-fn most_urgent(graph: &Graph, urgencies: &Table<usize>, value: usize) -> Option<usize> {
+fn most_urgent(
+    graph: &Graph,
+    urgencies: &Table<ValueId, usize>,
+    value: ValueId,
+) -> Option<ValueId> {
     let mut best = None;
     let mut most = 0;
     for user in graph.users(value) {
@@ -24,7 +28,7 @@ fn most_urgent(graph: &Graph, urgencies: &Table<usize>, value: usize) -> Option<
 }
 
 // Of the operations of which a value is made, the one that is there last.
-fn latest(graph: &Graph, starts: &Table<usize>, value: usize) -> Option<usize> {
+fn latest(graph: &Graph, starts: &Table<ValueId, usize>, value: ValueId) -> Option<ValueId> {
     let mut best = None;
     let mut most = (0, false);
     for operand in graph.origin(value).values() {
@@ -45,10 +49,10 @@ impl Paths {
     fn next_of(
         &self,
         graph: &Graph,
-        urgencies: &Table<usize>,
-        starts: &Table<usize>,
-        value: usize,
-    ) -> Option<usize> {
+        urgencies: &Table<ValueId, usize>,
+        starts: &Table<ValueId, usize>,
+        value: ValueId,
+    ) -> Option<ValueId> {
         if graph.origin(value).is_input() {
             return None;
         }
@@ -63,14 +67,14 @@ impl Paths {
     pub(crate) fn of(
         alloc: Global,
         graph: &Graph,
-        urgencies: &Table<usize>,
-        starts: &Table<usize>,
+        urgencies: &Table<ValueId, usize>,
+        starts: &Table<ValueId, usize>,
     ) -> Result<Paths, AllocError> {
         let mut paths = Paths {
             next: Table::new(alloc, graph.count(), None)?,
             before: Table::new(alloc, graph.count(), None)?,
         };
-        for value in 0..graph.count() {
+        for value in (0..graph.count()).map(ValueId) {
             if let Some(user) = paths.next_of(graph, urgencies, starts, value) {
                 paths.next.put(value, Some(user));
                 paths.before.put(user, Some(value));

@@ -2,7 +2,7 @@
 use crate::paths::Paths;
 use crate::searching::Search;
 use crate::urgency::{starts, urgencies};
-use raw_frame::{Part, Table, Waiting};
+use raw_frame::{Part, Rank, Table, TileId, ValueId, Waiting};
 use raw_graph::Graph;
 use std::alloc::{AllocError, Global};
 
@@ -21,12 +21,12 @@ pub struct Style {
 pub(crate) fn by_urgency(
     alloc: Global,
     graph: &Graph,
-    urgencies: &Table<usize>,
+    urgencies: &Table<ValueId, usize>,
 ) -> Result<Vec<Waiting>, AllocError> {
     let mut order = Vec::new(alloc);
-    for value in 0..graph.count() {
+    for value in (0..graph.count()).map(ValueId) {
         order.push(Waiting {
-            rank: usize::MAX.saturating_sub(urgencies.at(value)),
+            rank: Rank(usize::MAX.saturating_sub(urgencies.at(value))),
             value,
         })?;
     }
@@ -34,25 +34,26 @@ pub(crate) fn by_urgency(
     Ok(order)
 }
 
-// The least of the tiles at which a value is used.
-fn least_home(graph: &Graph, homes: &Table<usize>, value: usize) -> usize {
-    let mut least = usize::MAX;
+// The least of the tiles at which a value is used, if it is used.
+fn least_home(graph: &Graph, homes: &Table<ValueId, TileId>, value: ValueId) -> Option<TileId> {
+    let mut least = None;
     for user in graph.users(value) {
-        least = homes.at(*user).min(least);
+        let home = homes.at(*user);
+        least = Some(home.min(least.unwrap_or(home)));
     }
-    if least == usize::MAX { 0 } else { least }
+    least
 }
 
 // An input that is an out is brought to a tile at which it is used.
-fn place_inputs(graph: &Graph, homes: &mut Table<usize>) {
-    for value in 0..graph.count() {
+fn place_inputs(graph: &Graph, homes: &mut Table<ValueId, TileId>) {
+    for value in (0..graph.count()).map(ValueId) {
         if graph.origin(value).is_input() {
             let home = if graph.outs_of(value).is_empty() {
-                0
+                None
             } else {
                 least_home(graph, homes, value)
             };
-            homes.put(value, home);
+            homes.put(value, home.unwrap_or(TileId::CORNER));
         }
     }
 }
@@ -63,8 +64,8 @@ pub fn place(
     graph: &Graph,
     part: Part,
     style: Style,
-) -> Result<Table<usize>, AllocError> {
-    let together = Table::new(alloc, 0, 0)?;
+) -> Result<Table<ValueId, TileId>, AllocError> {
+    let together = Table::new(alloc, 0, TileId::CORNER)?;
     let urgencies = urgencies(alloc, graph, part, &together)?;
     let starts = starts(alloc, graph)?;
     let paths = Paths::of(alloc, graph, &urgencies, &starts)?;

@@ -1,7 +1,7 @@
 //! In which order values have their turns.
 use crate::placing::by_urgency;
 use crate::urgency::urgencies;
-use raw_frame::{Part, Table, Waiting};
+use raw_frame::{Part, Rank, Table, TileId, ValueId, Waiting};
 use raw_graph::{Graph, Operand};
 use std::alloc::{AllocError, Global};
 
@@ -21,15 +21,15 @@ pub enum Rule {
 struct Visit<'a> {
     graph: &'a Graph,
     /// How many values each is made of, each with those that it is made of.
-    sizes: Table<usize>,
-    seen: Table<bool>,
+    sizes: Table<ValueId, usize>,
+    seen: Table<ValueId, bool>,
     /// What is to be visited, and whether that is for the second time.
-    stack: Vec<(usize, bool)>,
-    order: Vec<usize>,
+    stack: Vec<(ValueId, bool)>,
+    order: Vec<ValueId>,
 }
 
 // How many values a value is made of.
-fn size(graph: &Graph, sizes: &Table<usize>, value: usize) -> usize {
+fn size(graph: &Graph, sizes: &Table<ValueId, usize>, value: ValueId) -> usize {
     let mut size: usize = 1;
     for operand in graph.origin(value).values() {
         if let Some(operand) = operand {
@@ -40,9 +40,9 @@ fn size(graph: &Graph, sizes: &Table<usize>, value: usize) -> usize {
 }
 
 // The same of all values.
-fn sizes(alloc: Global, graph: &Graph) -> Result<Table<usize>, AllocError> {
+fn sizes(alloc: Global, graph: &Graph) -> Result<Table<ValueId, usize>, AllocError> {
     let mut sizes = Table::new(alloc, graph.count(), 0)?;
-    for value in 0..graph.count() {
+    for value in (0..graph.count()).map(ValueId) {
         let size = size(graph, &sizes, value);
         sizes.put(value, size);
     }
@@ -51,7 +51,7 @@ fn sizes(alloc: Global, graph: &Graph) -> Result<Table<usize>, AllocError> {
 
 impl Visit<'_> {
     // Visits a value next, if it has not been seen.
-    fn push(&mut self, value: Option<usize>) -> Result<(), AllocError> {
+    fn push(&mut self, value: Option<ValueId>) -> Result<(), AllocError> {
         if let Some(value) = value {
             if !self.seen.at(value) {
                 self.stack.push((value, false))?;
@@ -61,7 +61,7 @@ impl Visit<'_> {
     }
 
     // What a value is made of, the larger first.
-    fn push_operands(&mut self, value: usize) -> Result<(), AllocError> {
+    fn push_operands(&mut self, value: ValueId) -> Result<(), AllocError> {
         let [first, second] = self.graph.origin(value).values();
         if self.size_of(first) > self.size_of(second) {
             self.push(second)?;
@@ -73,7 +73,7 @@ impl Visit<'_> {
     }
 
     // How many values an operand is made of.
-    fn size_of(&self, value: Option<usize>) -> usize {
+    fn size_of(&self, value: Option<ValueId>) -> usize {
         match value {
             Some(value) => self.sizes.at(value),
             None => 0,
@@ -81,7 +81,7 @@ impl Visit<'_> {
     }
 
     // A value for the first time, or behind what it is made of.
-    fn visit(&mut self, value: usize, again: bool) -> Result<(), AllocError> {
+    fn visit(&mut self, value: ValueId, again: bool) -> Result<(), AllocError> {
         if self.seen.at(value) {
             return Ok(());
         }
@@ -95,7 +95,7 @@ impl Visit<'_> {
     }
 
     // All that an out needs.
-    fn visit_out(&mut self, out: usize) -> Result<(), AllocError> {
+    fn visit_out(&mut self, out: ValueId) -> Result<(), AllocError> {
         self.push(Some(out))?;
         for _ in 0..self.graph.count().saturating_mul(4) {
             let Some((value, again)) = self.stack.pop() else {
@@ -108,7 +108,7 @@ impl Visit<'_> {
 }
 
 // Values in the order in which the outs need them.
-fn out_by_out(alloc: Global, graph: &Graph) -> Result<Vec<usize>, AllocError> {
+fn out_by_out(alloc: Global, graph: &Graph) -> Result<Vec<ValueId>, AllocError> {
     let mut visit = Visit {
         graph,
         sizes: sizes(alloc, graph)?,
@@ -129,8 +129,8 @@ fn urgent(
     alloc: Global,
     graph: &Graph,
     part: Part,
-    homes: &Table<usize>,
-) -> Result<Vec<usize>, AllocError> {
+    homes: &Table<ValueId, TileId>,
+) -> Result<Vec<ValueId>, AllocError> {
     let urgencies = urgencies(alloc, graph, part, homes)?;
     let waits: Vec<Waiting> = by_urgency(alloc, graph, &urgencies)?;
     let mut order = Vec::new(alloc);
@@ -141,30 +141,30 @@ fn urgent(
 }
 
 // Values by their numbers.
-fn as_defined(alloc: Global, graph: &Graph) -> Result<Vec<usize>, AllocError> {
+fn as_defined(alloc: Global, graph: &Graph) -> Result<Vec<ValueId>, AllocError> {
     let mut order = Vec::new(alloc);
-    for value in 0..graph.count() {
+    for value in (0..graph.count()).map(ValueId) {
         order.push(value)?;
     }
     Ok(order)
 }
 
-/// The rank of each value, 1 for the first. A value without a rank has `usize::MAX`.
+/// The rank of each value, 1 for the first.
 pub fn ranks(
     alloc: Global,
     graph: &Graph,
     part: Part,
-    homes: &Table<usize>,
+    homes: &Table<ValueId, TileId>,
     rule: Rule,
-) -> Result<Table<usize>, AllocError> {
+) -> Result<Table<ValueId, Rank>, AllocError> {
     let order = match rule {
         Rule::Urgent => urgent(alloc, graph, part, homes)?,
         Rule::OutByOut => out_by_out(alloc, graph)?,
         Rule::AsDefined => as_defined(alloc, graph)?,
     };
-    let mut ranks = Table::new(alloc, graph.count(), usize::MAX)?;
+    let mut ranks = Table::new(alloc, graph.count(), Rank::LAST)?;
     for place in 0..order.len() {
-        ranks.put(order[place], place.saturating_add(1));
+        ranks.put(order[place], Rank(place.saturating_add(1)));
     }
     Ok(ranks)
 }

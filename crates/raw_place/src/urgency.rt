@@ -1,10 +1,10 @@
 //! How long the ways to and from values are, in cycles.
-use raw_frame::{Part, Table};
+use raw_frame::{Part, Table, TileId, ValueId};
 use raw_graph::{Graph, Origin};
 use std::alloc::{AllocError, Global};
 
 // How many cycles a word is on its way between two tiles; none where they are one.
-pub(crate) fn way(part: Part, from: usize, to: usize) -> usize {
+pub(crate) fn way(part: Part, from: TileId, to: TileId) -> usize {
     if from == to {
         0
     } else {
@@ -13,15 +13,15 @@ pub(crate) fn way(part: Part, from: usize, to: usize) -> usize {
 }
 
 // The longest way from a value to the sink, as one of the outs. The sink takes one a cycle, in their order.
-fn way_out(graph: &Graph, part: Part, home: usize, value: usize) -> usize {
+fn way_out(graph: &Graph, part: Part, home: TileId, value: ValueId) -> usize {
     let mut most = 0;
     for out in graph.outs_of(value) {
-        most = graph.outs().len().saturating_sub(*out).max(most);
+        most = graph.outs().len().saturating_sub(out.0).max(most);
     }
     if most == 0 {
         0
     } else {
-        most.saturating_add(part.distance(home, 0))
+        most.saturating_add(part.distance(home, TileId::CORNER))
             .saturating_add(2)
     }
 }
@@ -30,9 +30,9 @@ fn way_out(graph: &Graph, part: Part, home: usize, value: usize) -> usize {
 fn longest(
     graph: &Graph,
     part: Part,
-    homes: &Table<usize>,
-    urgencies: &Table<usize>,
-    value: usize,
+    homes: &Table<ValueId, TileId>,
+    urgencies: &Table<ValueId, usize>,
+    value: ValueId,
 ) -> usize {
     let home = homes.at(value);
     let mut most = way_out(graph, part, home, value);
@@ -49,10 +49,10 @@ pub(crate) fn urgencies(
     alloc: Global,
     graph: &Graph,
     part: Part,
-    homes: &Table<usize>,
-) -> Result<Table<usize>, AllocError> {
+    homes: &Table<ValueId, TileId>,
+) -> Result<Table<ValueId, usize>, AllocError> {
     let mut urgencies = Table::new(alloc, graph.count(), 0)?;
-    for value in (0..graph.count()).rev() {
+    for value in (0..graph.count()).rev().map(ValueId) {
         let most = longest(graph, part, homes, &urgencies, value);
         urgencies.put(value, most);
     }
@@ -60,10 +60,10 @@ pub(crate) fn urgencies(
 }
 
 // When a value is there at the earliest, by when those are of which it is made.
-fn start(graph: &Graph, starts: &Table<usize>, value: usize) -> usize {
+fn start(graph: &Graph, starts: &Table<ValueId, usize>, value: ValueId) -> usize {
     let origin = graph.origin(value);
     match origin {
-        Origin::Input(place) => place.saturating_add(2),
+        Origin::Input(input) => input.0.saturating_add(2),
         Origin::Made { .. } => {
             let mut most: usize = 0;
             for operand in origin.values() {
@@ -77,9 +77,9 @@ fn start(graph: &Graph, starts: &Table<usize>, value: usize) -> usize {
 }
 
 /// For each value the first cycle in which it can be there, with as many tiles as there are values.
-pub(crate) fn starts(alloc: Global, graph: &Graph) -> Result<Table<usize>, AllocError> {
+pub(crate) fn starts(alloc: Global, graph: &Graph) -> Result<Table<ValueId, usize>, AllocError> {
     let mut starts = Table::new(alloc, graph.count(), 0)?;
-    for value in 0..graph.count() {
+    for value in (0..graph.count()).map(ValueId) {
         let first = start(graph, &starts, value);
         starts.put(value, first);
     }

@@ -6,6 +6,15 @@
 //! holds and no bytes: stalls delay a tile and change no value.
 //!
 //! Each call is the definition of `raw_model` for that kind. None takes memory.
+//!
+//! Three lines of one set of the cache, which keeps two (`raw_tests/src/cache.rt`):
+//!
+//! ```
+//! let mut cache = Cache::new();
+//! for address in [0, 2048, 4096, 0] {
+//!     assert!(rt; cache.touch(address));
+//! }
+//! ```
 #![tactic(auto)]
 
 mod cache;

@@ -19,7 +19,7 @@ use crate::parts::{around, beside, parts};
 use crate::whole::whole_set;
 use raw_codegen::PARTS_LIMIT;
 use raw_flow::Flow;
-use raw_frame::{Part, Table};
+use raw_frame::{Part, Table, TileId, ValueId};
 use raw_graph::{Graph, graphs_of};
 use raw_issue::issue;
 use raw_model::{Set, TileProg};
@@ -204,7 +204,7 @@ impl Candidates {
         alloc: Global,
         graph: &Graph,
         way: Way,
-        homes: &Table<usize>,
+        homes: &Table<ValueId, TileId>,
     ) -> Result<(), AllocError> {
         let part = way.part;
         let ranks = ranks(alloc, graph, part, homes, way.rule)?;

@@ -5,7 +5,7 @@ ghost use Rattle.raw_schedule.specs.Given.{AreGiven, AreWhole};
 ghost use Rattle.raw_model.specs.Wired.{AreWired};
 
 use raw_codegen::{GiveRefusal, Programs, law_lawful_parts};
-use raw_frame::Part;
+use raw_frame::{Part, TileId};
 use raw_grid::{Ends, Topo};
 use raw_model::{TileProg, has_wires, wired_ends};
 use raw_switch_isa::SwitchIns;
@@ -115,15 +115,16 @@ fn give_program(
     give_switch_code(programs, tile, wired, &program.switch)
 }
 
-// The number of a tile of a grid in a part of it, if it is there.
-fn place_in(part: Part, cols: u8, tile: u32) -> Option<usize> {
+// The tile of a part of a grid that a tile of the grid is, if it is there.
+fn tile_in(part: Part, cols: u8, tile: u32) -> Option<TileId> {
     let grid = Part {
         cols: usize::from(cols),
         rows: 8,
     };
-    let (x, y) = (grid.column(tile as usize), grid.row(tile as usize));
+    let tile = TileId(tile as usize);
+    let (x, y) = (grid.column(tile), grid.row(tile));
     if x < part.cols && y < part.rows {
-        Some(y.saturating_mul(part.cols).saturating_add(x))
+        Some(part.tile_at(x, y))
     } else {
         None
     }
@@ -131,7 +132,7 @@ fn place_in(part: Part, cols: u8, tile: u32) -> Option<usize> {
 
 // The program of a tile of a grid, if it is in the part.
 fn program_at(given: &[TileProg], part: Part, cols: u8, tile: u32) -> Option<&TileProg> {
-    given.get(place_in(part, cols, tile)?)
+    given.get(tile_in(part, cols, tile)?.0)
 }
 
 // Gives all tiles of a part their programs.

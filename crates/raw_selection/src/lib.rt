@@ -3,4 +3,4 @@
 
 mod step;
 
-pub use step::{Operation, constant_of, copy, load, register, step_of, store};
+pub use step::{Cell, Operation, constant_of, copy, load, step_of, store};

@@ -1,7 +1,6 @@
 //! The one instruction by which an operation is done.
-ghost use Rattle.std.specs.Prelude.{◌<◌};
-
 use raw_flow::FlowOp;
+use raw_frame::Register;
 use raw_graph::{Operand, Origin, commutes};
 use raw_tile_isa::{TileIns, TileOp, is_short};
 
@@ -113,13 +112,6 @@ pub fn constant_of(op: FlowOp, a: Operand, b: Operand) -> Option<u32> {
     second.or(in_register(step.first()))
 }
 
-// The number of a register.
-#[derive(Clone, Copy)]
-struct RegisterNumber {
-    number: u8,
-    ghost there: { number < 32 },
-}
-
 impl Operation {
     /// What is read from the first register.
     pub fn first(self) -> Operand {
@@ -149,8 +141,7 @@ impl Operation {
     }
 
     /// The instruction that makes the value in a register, with its operands in these.
-    pub fn instruction(self, to: u8, first: u8, second: u8) -> TileIns {
-        let (to, first, second) = (numbered(to), numbered(first), numbered(second));
+    pub fn instruction(self, to: Register, first: Register, second: Register) -> TileIns {
         match self {
             Operation::Registers { op, .. } => registers(op, to, first, second),
             Operation::Immediate { op, low, .. } => immediate(op, to, first, low),
@@ -159,28 +150,9 @@ impl Operation {
     }
 }
 
-// The number of a register; numbers of 32 and more are those of no register.
-pub fn register(number: u8) -> u8
-    ensures { result < 32 }
-{
-    number & 31
-}
-
-// The register of this number.
-fn numbered(number: u8) -> RegisterNumber {
-    RegisterNumber {
-        number: register(number),
-    }
-}
-
 // An operation of arithmetic on registers.
-fn arithmetic(
-    op: FlowOp,
-    to: RegisterNumber,
-    first: RegisterNumber,
-    second: RegisterNumber,
-) -> TileIns {
-    let (rd, rs, rt) = (to.number, first.number, second.number);
+fn arithmetic(op: FlowOp, to: Register, first: Register, second: Register) -> TileIns {
+    let (rd, rs, rt) = (to.field(), first.field(), second.field());
     match op {
         FlowOp::Sub => TileIns::registers(TileOp::Subu, rd, rs, rt),
         FlowOp::Mul => TileIns::registers(TileOp::Mul, rd, rs, rt),
@@ -191,13 +163,8 @@ fn arithmetic(
 }
 
 // An operation on registers.
-fn registers(
-    op: FlowOp,
-    to: RegisterNumber,
-    first: RegisterNumber,
-    second: RegisterNumber,
-) -> TileIns {
-    let (rd, rs, rt) = (to.number, first.number, second.number);
+fn registers(op: FlowOp, to: Register, first: Register, second: Register) -> TileIns {
+    let (rd, rs, rt) = (to.field(), first.field(), second.field());
     match op {
         FlowOp::And => TileIns::registers(TileOp::And, rd, rs, rt),
         FlowOp::Or => TileIns::registers(TileOp::Or, rd, rs, rt),
@@ -213,8 +180,8 @@ fn registers(
 }
 
 // An operation on a register and an immediate.
-fn immediate(op: FlowOp, to: RegisterNumber, first: RegisterNumber, low: u16) -> TileIns {
-    let (rt, rs) = (to.number, first.number);
+fn immediate(op: FlowOp, to: Register, first: Register, low: u16) -> TileIns {
+    let (rt, rs) = (to.field(), first.field());
     match op {
         FlowOp::And => TileIns::immediate(TileOp::Andi, rt, rs, low),
         FlowOp::Or => TileIns::immediate(TileOp::Ori, rt, rs, low),
@@ -226,8 +193,8 @@ fn immediate(op: FlowOp, to: RegisterNumber, first: RegisterNumber, low: u16) ->
 }
 
 // A shift by an amount.
-fn shift(op: FlowOp, to: RegisterNumber, first: RegisterNumber, amount: u8) -> TileIns {
-    let (rd, rt, amount) = (to.number, first.number, register(amount));
+fn shift(op: FlowOp, to: Register, first: Register, amount: u8) -> TileIns {
+    let (rd, rt, amount) = (to.field(), first.field(), amount & 31);
     match op {
         FlowOp::ShiftRight => TileIns::shift(TileOp::Srl, rd, rt, amount),
         FlowOp::ShiftRightSigned => TileIns::shift(TileOp::Sra, rd, rt, amount),
@@ -236,21 +203,27 @@ fn shift(op: FlowOp, to: RegisterNumber, first: RegisterNumber, amount: u8) -> T
 }
 
 /// `addu $d, $s, $0`.
-pub fn copy(to: u8, from: u8) -> TileIns {
-    TileIns::registers(TileOp::Addu, register(to), register(from), 0)
+pub fn copy(to: Register, from: Register) -> TileIns {
+    TileIns::registers(TileOp::Addu, to.field(), from.field(), 0)
 }
 
-// The offset of a cell: a word below 32 KiB, counted from 1.
-fn offset(cell: u16) -> u16 {
-    (cell.wrapping_sub(1) & 0x1fff) * 4
+/// A cell of the memory of a tile, a word of its first 32 KiB, by its number.
+#[derive(Clone, Copy, PartialEq, Eq)]
+pub struct Cell(pub u16);
+
+impl Cell {
+    // Where it begins, in bytes.
+    fn offset(self) -> u16 {
+        (self.0 & 0x1fff) * 4
+    }
 }
 
-/// `lw $d, 4(c - 1)($0)`, of the cell with number c.
-pub fn load(to: u8, cell: u16) -> TileIns {
-    TileIns::immediate(TileOp::Lw, register(to), 0, offset(cell))
+/// `lw $d, 4c($0)`, of the cell with number c.
+pub fn load(to: Register, cell: Cell) -> TileIns {
+    TileIns::immediate(TileOp::Lw, to.field(), 0, cell.offset())
 }
 
-/// `sw $s, 4(c - 1)($0)`, to the cell with number c.
-pub fn store(from: u8, cell: u16) -> TileIns {
-    TileIns::immediate(TileOp::Sw, register(from), 0, offset(cell))
+/// `sw $s, 4c($0)`, to the cell with number c.
+pub fn store(from: Register, cell: Cell) -> TileIns {
+    TileIns::immediate(TileOp::Sw, from.field(), 0, cell.offset())
 }

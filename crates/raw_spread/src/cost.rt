@@ -1,6 +1,6 @@
 //! What it costs where values are.
 use raw_body::{Body, Components, Site};
-use raw_frame::Table;
+use raw_frame::{Table, TileId, ValueId};
 use std::alloc::{AllocError, Global};
 
 /// What a value that is made adds to the load of its tile. Loads are counted in hundredths of an instruction.
@@ -28,13 +28,13 @@ pub(crate) struct Cost<'a> {
     pub(crate) components: &'a Components,
     pub(crate) site: Site<'a>,
     /// The values whose constants need registers.
-    constants: &'a Table<bool>,
-    pub(crate) homes: Table<usize>,
-    loads: Table<usize>,
+    constants: &'a Table<ValueId, bool>,
+    pub(crate) homes: Table<ValueId, TileId>,
+    loads: Table<TileId, usize>,
     /// How many links all words pass.
     distance: usize,
     /// How often a value is used at each tile, while that is looked at.
-    counts: Table<usize>,
+    counts: Table<TileId, usize>,
 }
 
 impl<'a> Cost<'a> {
@@ -44,8 +44,8 @@ impl<'a> Cost<'a> {
         body: &'a Body,
         components: &'a Components,
         site: Site<'a>,
-        constants: &'a Table<bool>,
-        homes: Table<usize>,
+        constants: &'a Table<ValueId, bool>,
+        homes: Table<ValueId, TileId>,
     ) -> Result<Cost<'a>, AllocError> {
         let tiles = site.part.tiles();
         let mut cost = Cost {
@@ -58,14 +58,14 @@ impl<'a> Cost<'a> {
             distance: 0,
             counts: Table::new(alloc, tiles, 0)?,
         };
-        for value in 0..body.count() {
+        for value in (0..body.count()).map(ValueId) {
             cost.note(value, true);
         }
         Ok(cost)
     }
 
     // Adds to the load of a tile, or takes away.
-    fn load(&mut self, tile: usize, load: usize, is_added: bool) {
+    fn load(&mut self, tile: TileId, load: usize, is_added: bool) {
         let old = self.loads.at(tile);
         let new = if is_added {
             old.saturating_add(load)
@@ -76,7 +76,7 @@ impl<'a> Cost<'a> {
     }
 
     // Adds to the distance, or takes away.
-    fn go(&mut self, from: usize, to: usize, is_added: bool) {
+    fn go(&mut self, from: TileId, to: TileId, is_added: bool) {
         let links = self.site.part.distance(from, to);
         self.distance = if is_added {
             self.distance.saturating_add(links)
@@ -86,15 +86,15 @@ impl<'a> Cost<'a> {
     }
 
     /// The tile at which a value is made, or put in.
-    pub(crate) fn root(&self, value: usize) -> usize {
+    pub(crate) fn root(&self, value: ValueId) -> TileId {
         match self.body.origin(value).source() {
-            Some(port) => self.site.source_tile(port),
+            Some(source) => self.site.source_tile(source),
             None => self.homes.at(value),
         }
     }
 
     // Counts the uses of a value at each tile.
-    fn count_uses(&mut self, value: usize) {
+    fn count_uses(&mut self, value: ValueId) {
         let body = self.body;
         for used in body.uses(value) {
             let tile = self.homes.at(used.user);
@@ -104,7 +104,7 @@ impl<'a> Cost<'a> {
     }
 
     // The uses of a value at a tile to which it is brought; whether there are any.
-    fn note_uses(&mut self, value: usize, tile: usize, is_added: bool) -> bool {
+    fn note_uses(&mut self, value: ValueId, tile: TileId, is_added: bool) -> bool {
         let count = self.counts.at(tile);
         self.counts.put(tile, 0);
         if count == 0 {
@@ -117,7 +117,7 @@ impl<'a> Cost<'a> {
     }
 
     // The uses of a value at all tiles to which it is brought; whether there are any.
-    fn note_all_uses(&mut self, value: usize, is_added: bool) -> bool {
+    fn note_all_uses(&mut self, value: ValueId, is_added: bool) -> bool {
         let body = self.body;
         let mut is_brought = false;
         for used in body.uses(value) {
@@ -128,7 +128,7 @@ impl<'a> Cost<'a> {
     }
 
     // What a value that is made costs at its own tile, where it is used there so often.
-    fn note_home(&mut self, value: usize, local: usize, is_brought: bool, is_added: bool) {
+    fn note_home(&mut self, value: ValueId, local: usize, is_brought: bool, is_added: bool) {
         let home = self.homes.at(value);
         self.load(home, MADE, is_added);
         if self.constants.at(value) {
@@ -142,17 +142,17 @@ impl<'a> Cost<'a> {
     }
 
     // The way of a value to its sink.
-    fn note_out(&mut self, value: usize, is_added: bool) {
+    fn note_out(&mut self, value: ValueId, is_added: bool) {
         let body = self.body;
-        if let Some(port) = body.sink_of(value) {
+        if let Some(sink) = body.sink_of(value) {
             let site = self.site;
             let home = self.homes.at(value);
-            self.go(home, site.sink_tile(port), is_added);
+            self.go(home, site.sink_tile(sink), is_added);
         }
     }
 
     /// Adds what a value costs, or takes it away.
-    pub(crate) fn note(&mut self, value: usize, is_added: bool) {
+    pub(crate) fn note(&mut self, value: ValueId, is_added: bool) {
         self.count_uses(value);
         if self.body.origin(value).is_input() {
             self.note_all_uses(value, is_added);
@@ -170,7 +170,7 @@ impl<'a> Cost<'a> {
     pub(crate) fn total(&self, target: usize, weight: usize) -> usize {
         let mut most = 0;
         let mut over: usize = 0;
-        for tile in 0..self.loads.size() {
+        for tile in (0..self.loads.size()).map(TileId) {
             let load = self.loads.at(tile);
             let more = load.saturating_sub(target);
             most = load.max(most);

@@ -1,8 +1,8 @@
 //! The search for the tiles of values.
 use crate::chance::Chance;
 use crate::cost::Cost;
-use raw_body::{Body, Components, Site};
-use raw_frame::Table;
+use raw_body::{Body, Components, GroupId, Position, Site};
+use raw_frame::{Table, TileId, ValueId};
 use std::alloc::{AllocError, Global};
 
 /// What is aimed at.
@@ -27,22 +27,22 @@ const COLD: usize = 100;
 struct Search<'a> {
     cost: Cost<'a>,
     /// The tiles on which values may be made.
-    tiles: &'a [usize],
+    tiles: &'a [TileId],
     aim: Aim,
     chance: Chance,
     /// The groups of values that are moved together.
-    groups: Vec<usize>,
+    groups: Vec<GroupId>,
     /// The values that a move is felt by.
-    touched: Vec<usize>,
+    touched: Vec<ValueId>,
     now: usize,
     least: usize,
-    best: Table<usize>,
+    best: Table<ValueId, TileId>,
 }
 
 // The groups of values that are made.
-fn groups(alloc: Global, body: &Body, components: &Components) -> Result<Vec<usize>, AllocError> {
+fn groups(alloc: Global, body: &Body, components: &Components) -> Result<Vec<GroupId>, AllocError> {
     let mut groups = Vec::new(alloc);
-    for group in 0..components.count() {
+    for group in (0..components.count()).map(GroupId) {
         if let Some(value) = components.members(group).first() {
             if !body.origin(*value).is_input() {
                 groups.push(group)?;
@@ -57,18 +57,18 @@ fn first_homes(
     alloc: Global,
     body: &Body,
     components: &Components,
-    tiles: &[usize],
-) -> Result<Table<usize>, AllocError> {
+    tiles: &[TileId],
+) -> Result<Table<ValueId, TileId>, AllocError> {
     let count = body.count();
-    let mut homes = Table::new(alloc, count, 0)?;
-    for value in 0..count {
+    let mut homes = Table::new(alloc, count, TileId::CORNER)?;
+    for value in (0..count).map(ValueId) {
         let first = match components.members(components.group(value)).first() {
             Some(first) => *first,
             None => value,
         };
-        let place = first.saturating_mul(tiles.len());
+        let place = first.0.saturating_mul(tiles.len());
         let place = place.checked_div(count).unwrap_or(0);
-        homes.put(value, tiles.get(place).copied().unwrap_or(0));
+        homes.put(value, tiles.get(place).copied().unwrap_or(TileId::CORNER));
     }
     Ok(homes)
 }
@@ -84,25 +84,27 @@ fn warmth(tried: usize, all: usize) -> usize {
 
 impl<'a> Search<'a> {
     // One of the tiles.
-    fn any_tile(&mut self) -> usize {
+    fn any_tile(&mut self) -> TileId {
         let place = self.chance.below(self.tiles.len());
-        self.tiles.get(place).copied().unwrap_or(0)
+        self.tiles.get(place).copied().unwrap_or(TileId::CORNER)
     }
 
     // A tile of a value that is used by a value, or uses it.
-    fn near_value(&mut self, value: usize) -> Option<usize> {
+    fn near_value(&mut self, value: ValueId) -> Option<TileId> {
         let body = self.cost.body;
         let uses = body.uses(value);
         let place = self.chance.below(uses.len().saturating_add(2));
         if let Some(used) = uses.get(place) {
             return Some(self.cost.homes.at(used.user));
         }
-        let (operand, _) = body.origin(value).value(place.saturating_sub(uses.len()))?;
-        Some(self.cost.root(operand))
+        let place = place.saturating_sub(uses.len());
+        let position = Position::BOTH.get(place).copied()?;
+        let operand = body.origin(value).value(position)?;
+        Some(self.cost.root(operand.value))
     }
 
     // The tile beside a tile.
-    fn beside(&mut self, tile: usize) -> usize {
+    fn beside(&mut self, tile: TileId) -> TileId {
         let part = self.cost.site.part;
         let (x, y) = (part.column(tile), part.row(tile));
         let (x, y) = match self.chance.below(4) {
@@ -111,11 +113,11 @@ impl<'a> Search<'a> {
             2 => (x, y.saturating_add(1).min(part.rows.saturating_sub(1))),
             _ => (x, y.saturating_sub(1)),
         };
-        y.saturating_mul(part.cols).saturating_add(x)
+        part.tile_at(x, y)
     }
 
     // A tile to which a value may go: that of a neighbour, one beside it, or any.
-    fn tile_for(&mut self, value: usize) -> usize {
+    fn tile_for(&mut self, value: ValueId) -> TileId {
         if self.chance.below(3) == 0 {
             return self.any_tile();
         }
@@ -136,7 +138,7 @@ impl<'a> Search<'a> {
     }
 
     // Notes a value that a move is felt by.
-    fn touch(&mut self, value: usize) -> Result<(), AllocError> {
+    fn touch(&mut self, value: ValueId) -> Result<(), AllocError> {
         if !self.touched.contains(&value) {
             self.touched.push(value)?;
         }
@@ -144,11 +146,11 @@ impl<'a> Search<'a> {
     }
 
     // Notes a value and its operands.
-    fn touch_all(&mut self, value: usize) -> Result<(), AllocError> {
+    fn touch_all(&mut self, value: ValueId) -> Result<(), AllocError> {
         self.touch(value)?;
-        for place in 0..2 {
-            if let Some((operand, _)) = self.cost.body.origin(value).value(place) {
-                self.touch(operand)?;
+        for position in Position::BOTH {
+            if let Some(operand) = self.cost.body.origin(value).value(position) {
+                self.touch(operand.value)?;
             }
         }
         Ok(())
@@ -162,7 +164,7 @@ impl<'a> Search<'a> {
     }
 
     // The values of a group go to a tile.
-    fn put(&mut self, group: usize, tile: usize) {
+    fn put(&mut self, group: GroupId, tile: TileId) {
         self.note_touched(false);
         let components = self.cost.components;
         for value in components.members(group) {
@@ -172,7 +174,7 @@ impl<'a> Search<'a> {
     }
 
     // The values that the move of a group is felt by.
-    fn touch_group(&mut self, group: usize) -> Result<(), AllocError> {
+    fn touch_group(&mut self, group: GroupId) -> Result<(), AllocError> {
         self.touched.clear();
         let components = self.cost.components;
         for value in components.members(group) {
@@ -185,7 +187,7 @@ impl<'a> Search<'a> {
     fn keep(&mut self, count: usize) {
         if self.now < self.least {
             self.least = self.now;
-            for value in 0..count {
+            for value in (0..count).map(ValueId) {
                 self.best.put(value, self.cost.homes.at(value));
             }
         }
@@ -203,7 +205,7 @@ impl<'a> Search<'a> {
     }
 
     // Moves a group to a tile, if the costs are such.
-    fn try_move(&mut self, group: usize, tile: usize, warmth: usize) -> Result<(), AllocError> {
+    fn try_move(&mut self, group: GroupId, tile: TileId, warmth: usize) -> Result<(), AllocError> {
         let Some(value) = self.cost.components.members(group).first() else {
             return Ok(());
         };
@@ -226,10 +228,10 @@ impl<'a> Search<'a> {
     // A move of some group to some tile.
     fn step(&mut self, warmth: usize) -> Result<(), AllocError> {
         let place = self.chance.below(self.groups.len());
-        let group = self.groups.get(place).copied().unwrap_or(0);
+        let group = self.groups.get(place).copied().unwrap_or(GroupId(0));
         let members = self.cost.components.members(group);
         let place = self.chance.below(members.len());
-        let value = members.get(place).copied().unwrap_or(0);
+        let value = members.get(place).copied().unwrap_or(ValueId(0));
         let tile = self.tile_for(value);
         self.try_move(group, tile, warmth)
     }
@@ -253,10 +255,10 @@ pub fn spread(
     body: &Body,
     components: &Components,
     site: Site<'_>,
-    tiles: &[usize],
-    constants: &Table<bool>,
+    tiles: &[TileId],
+    constants: &Table<ValueId, bool>,
     aim: Aim,
-) -> Result<Table<usize>, AllocError> {
+) -> Result<Table<ValueId, TileId>, AllocError> {
     let homes = first_homes(alloc, body, components, tiles)?;
     let best = first_homes(alloc, body, components, tiles)?;
     let cost = Cost::new(alloc, body, components, site, constants, homes)?;

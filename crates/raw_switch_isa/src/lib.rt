@@ -8,6 +8,16 @@
 //!
 //! An end index 0 to 9 means N, E, S, W, P of network 1 and then of network 2. A `u16` of ends has
 //! bit `i` for index `i`.
+//!
+//! Which values an instruction takes, of those that are offered at the ten ends (`raw_tests/src/switch.rt`):
+//!
+//! ```
+//! let named = inputs(ins);
+//! let mut given = [None; 10];
+//! for end in 0..10 {
+//!     given[end] = has_end(named, end).then_some(offers[end]);
+//! }
+//! ```
 #![tactic(auto)]
 
 mod code;

@@ -2,6 +2,13 @@
 //!
 //! A line ends at a newline (byte 10), and a last piece that is not empty is a line. Its tokens are
 //! its longest runs of bytes without tabs, carriage returns, spaces and commas, before any `#`.
+//!
+//! The lines of some bytes, which are to be a set (`raw_tests/src/fabric.rt`):
+//!
+//! ```
+//! let text = read_text(alloc, bytes)?;
+//! let lines = text.line_count();
+//! ```
 #![tactic(auto)]
 
 mod laws;

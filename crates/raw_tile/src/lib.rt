@@ -1,4 +1,11 @@
 //! A tile's processor: one firing is one row of the table of tile instructions.
+//!
+//! One firing of a tile, with what it takes from the networks (`raw_tests/src/tile.rt`):
+//!
+//! ```
+//! let out = tile_fire(&mut tile, &code, given(&ins, a, b));
+//! Ok((tile, out))
+//! ```
 #![tactic(auto)]
 
 mod access;

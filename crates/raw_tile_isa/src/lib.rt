@@ -1,4 +1,13 @@
 //! The instructions of a tile: one table of them, their words, and the arithmetic of words.
+//!
+//! What an instruction takes from the networks, of two values (`raw_tests/src/tile.rt`):
+//!
+//! ```
+//! TileGiven {
+//!     a: (ins.op.uses_rs() && is_network(ins.rs)).then_some(a),
+//!     b: (ins.op.reads_rt() && is_network(ins.rt)).then_some(b),
+//! }
+//! ```
 #![tactic(auto)]
 
 mod arithmetic;
