@@ -9,10 +9,13 @@ ghost use Rattle.raw_steady.specs.Steady.{KeepsCycles};
 ghost use Rattle.raw_steady.specs.Count.{cycle_count};
 ghost use Rattle.raw_choice.specs.Choice.{IsMade, IsChoice};
 
+use raw_clock::{law_clock, run};
 use raw_flow::Flow;
 use raw_model::Set;
-use raw_prove::{outcome_of, prove};
+use raw_outcome::outcome;
+use raw_prove::prove;
 use raw_schedule::Candidates;
+use raw_serial::Machine;
 use raw_steady::{cycles_of, law_count, law_words};
 use raw_term::{Verdict, law_compiled_meets};
 use std::alloc::{AllocError, Global};
@@ -54,15 +57,18 @@ fn fewer_cycles(
     ensures keeps { IfOk result (λ found. IfSome found (KeepsCycles candidate.now)) }
     ensures valid { IsSet candidate.now }
 {
-    law_count();
+    law_clock();
     law_words();
-    let cycles = cycles_of(alloc, candidate)?;
-    if cycles >= than {
+    // The set is read so that its rules are known.
+    let _limit = candidate.limit;
+    let mut machine = Machine::open(alloc, candidate)?;
+    let ran = run(&mut machine, alloc)?;
+    if ran.cycles >= than {
         return Ok(None);
     }
-    let how = outcome_of(alloc, candidate)?;
-    match prove(alloc, candidate, flow, &[], how)?.verdict {
-        Verdict::Proved(_) => Ok(Some(cycles)),
+    // The machine of the clock is at rest, and says how every run ends.
+    match prove(alloc, candidate, flow, &[], outcome(&machine))?.verdict {
+        Verdict::Proved(_) => Ok(Some(ran.cycles)),
         _ => Ok(None),
     }
 }
