@@ -1,5 +1,5 @@
 -- The answers to lines that are read byte by byte.
-use Rattle.std.specs.Prelude.{◌≡◌, ◌⊎◌, ℕ, ◌+◌, ◌≤◌, List, length, take, Option, Result, Ok, Err}
+use Rattle.std.specs.Prelude.{◌≡◌, ℕ, ◌+◌, ◌≤◌, List, length, take, Result, Ok, Err}
 use Rattle.std.specs.Io.KnownBytes.{Consumes, Appends, IsAtEnd}
 use Rattle.raw_io.specs.Causes.{Rose}
 use Rattle.raw_io.specs.Sights.{Sight, SourceSight}
@@ -7,7 +7,7 @@ use Rattle.raw_io.specs.Writing.{AppendsProperFront}
 use Rattle.raw_io.specs.declared.Failed.{Failed}
 use Rattle.raw_text.specs.Lines.{lines_of}
 use Rattle.raw_model.specs.Program.{ProgramSet}
-use Rattle.raw_live_text.specs.Feeding.{whole_lines, last_piece}
+use Rattle.raw_live_text.specs.Feeding.{whole_lines, last_piece, AreRead}
 use Rattle.raw_debug.specs.Commands.{LabelPlaces}
 use Rattle.raw_debug.specs.Script.{first_spot}
 use Rattle.raw_debug.specs.Live.{Session, answers, spot_after}
@@ -42,10 +42,6 @@ pub record AllPut (labels : LabelPlaces) (set : ProgramSet) (lines : List (List 
 abbrev pub Finished : LabelPlaces → ProgramSet → List ℕ → Sight → Sight → Result (Unit {0}) Failed → Type 0
 Finished labels set bytes before now (Ok x) = AllPut labels set (lines_of bytes) before now
 Finished labels set bytes before now (Err e) = FailsIn before now (answers labels set first_spot (lines_of bytes))
-
--- the lines that were read: those that a newline ends, or at the end of input all
-abbrev pub AreRead : Option (List ℕ) → List ℕ → List (List ℕ) → Type 0
-AreRead left bytes lines = (lines ≡ whole_lines bytes) ⊎ IsAtEnd left × (lines ≡ lines_of bytes)
 
 -- what was answered of the bytes, by how the reading ended
 abbrev pub AnsweredAs : SourceSight → SourceSight → Sight → Sight → LabelPlaces → ProgramSet → ℕ → List ℕ → Result (Unit {0}) Halt → Type 0

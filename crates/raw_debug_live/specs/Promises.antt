@@ -4,7 +4,7 @@ use Rattle.std.specs.Io.KnownBytes.{Consumes, IsAtEnd}
 use Rattle.raw_io.specs.Sights.{SourceSight}
 use Rattle.raw_text.specs.Lines.{lines_of}
 use Rattle.raw_text.specs.declared.limits.TheConstants.{MAX_TEXT}
-use Rattle.raw_live_text.specs.Feeding.{whole_lines}
+use Rattle.raw_live_text.specs.Feeding.{whole_lines, AreRead}
 use Rattle.raw_debug.specs.Script.{first_spot}
 use Rattle.raw_debug.specs.Live.{answers}
 use Rattle.raw_shell.specs.declared.failure.Failure.TheVariants.{Refused, ReadFault, WriteFault, Memory, TooLong}
@@ -14,7 +14,7 @@ use Rattle.raw_live_head.specs.declared.flaw.LineFlaw.{LineFlaw}
 use Rattle.raw_live_head.specs.declared.beginning.Begun.{Begun}
 use Rattle.raw_live_head.specs.Flaws.{Failure, flaw_line}
 use Rattle.raw_live_head.specs.Beginning.{Begins, StopsInHead}
-use Rattle.raw_debug_live.specs.Answering.{AllPut, FailsIn, AreRead}
+use Rattle.raw_debug_live.specs.Answering.{AllPut, FailsIn}
 use Rattle.raw_debug_live.specs.Serving.{script_word, labels_of, Ended}
 
 -- the line on err of a call that did not answer to the end

@@ -13,7 +13,7 @@ use Rattle.raw_set_text.specs.Texts.{token_lines}
 use Rattle.raw_live_text.specs.declared.head.HeadEnd.{HeadEnd}
 use Rattle.raw_live_text.specs.declared.head.HeadEnd.TheVariants.{Open, Mark, Fault}
 use Rattle.raw_live_text.specs.declared.fault.LineFault.{LineFault}
-use Rattle.raw_live_text.specs.Feeding.{Fed, fed, whole_lines}
+use Rattle.raw_live_text.specs.Feeding.{Fed, fed, whole_lines, AreRead}
 use Rattle.raw_live_text.specs.Heads.{head_of, first_end, unless_fault, word_end, line_end, GoesOn, EndsThere, IsMarked}
 use Rattle.raw_live.specs.Judging.{IsIntakeOf}
 use Rattle.raw_shell.specs.declared.failure.Failure.TheVariants.{Use, Refused, ReadFault, WriteFault, Memory, TooLong}
@@ -25,7 +25,7 @@ use Rattle.raw_live_run.specs.Answers.{Answer, status_of}
 use Rattle.raw_live_run.specs.Call.{Call, IsRestStatus}
 use Rattle.raw_set_text.specs.declared.kind.SetKind.{SetKind}
 use Rattle.raw_live_head.specs.Beginning.{HeadCause, StopsInHead, FaultBeforeMark, FaultWithoutMark}
-use Rattle.raw_live_run.specs.Live.{live_word, Live, SaysWords, put_by, AreRead}
+use Rattle.raw_live_run.specs.Live.{live_word, Live, SaysWords, put_by}
 use Rattle.raw_live_run.specs.Serving.{EndsInHead, Ended}
 use Rattle.raw_live_run.specs.Reaching.{Reached}
 use Rattle.raw_live_run.specs.Promises.{Came, HasCause, IsComplete}

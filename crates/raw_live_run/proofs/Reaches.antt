@@ -14,7 +14,7 @@ use Rattle.raw_live_text.specs.declared.intake.Intake.{Intake}
 use Rattle.raw_live_text.specs.declared.fault.LineFault.{LineFault}
 use Rattle.raw_live_text.specs.declared.stop.Stop.{Stop}
 use Rattle.raw_live_text.specs.declared.stop.Stop.TheVariants as stop
-use Rattle.raw_live_text.specs.Feeding.{Fed, fed, whole_lines, BeginsItems, AreWords, ReadAs, IsPrompt}
+use Rattle.raw_live_text.specs.Feeding.{Fed, fed, whole_lines, BeginsItems, AreWords, ReadAs, IsPrompt, AreRead}
 use Rattle.raw_live_text.specs.Heads.{head_of, GoesOn, EndsThere}
 use Rattle.raw_model.specs.declared.ending.Ending.{Ending}
 use Rattle.raw_live.specs.declared.live.Halt.{Halt}
@@ -28,7 +28,7 @@ use Rattle.raw_shell.specs.declared.failure.Failure.TheVariants.{WriteFault, Mem
 use Rattle.raw_shell.specs.Seen.{SourceSeen, SinkSeen, ReadFails, limit}
 use Rattle.raw_live_run.specs.Answers.{Answer, answer_of}
 use Rattle.raw_live_head.specs.Beginning.{Begins}
-use Rattle.raw_live_run.specs.Live.{live_word, SaysWords, put_by, AreRead}
+use Rattle.raw_live_run.specs.Live.{live_word, SaysWords, put_by}
 use Rattle.raw_live_run.specs.Serving.{LivesOn}
 use Rattle.raw_live_run.specs.Reaching.{AreAllPut, IsReadWhole, IsReadAs, StopsInPiece, IsWrittenAs, Reached}
 use Rattle.raw_live_text.specs.declared.reader.TheConstants.{PIECE}

@@ -1,12 +1,11 @@
 -- What live input says: a set, and the words that its sources are given while it runs.
-use Rattle.std.specs.Prelude.{◌≡◌, ◌⊎◌, ℕ, ◌+◌, List, map, take, drop, codes, Option, None}
-use Rattle.std.specs.Io.KnownBytes.{IsAtEnd}
+use Rattle.std.specs.Prelude.{◌≡◌, ℕ, ◌+◌, List, map, take, drop, codes, None}
 use Rattle.raw_text.specs.Lines.{lines_of, tokens_of}
 use Rattle.raw_model.specs.Program.{ProgramSet}
 use Rattle.raw_set_text.specs.Meaning.{IsMeaning}
 use Rattle.raw_live_text.specs.declared.head.HeadEnd.TheVariants.{Mark}
 use Rattle.raw_live_text.specs.declared.intake.Intake.{Intake}
-use Rattle.raw_live_text.specs.Feeding.{Fed, fed, whole_lines}
+use Rattle.raw_live_text.specs.Feeding.{Fed, fed}
 use Rattle.raw_live_text.specs.Heads.{head_of}
 use Rattle.raw_live.specs.Engine.{with_items}
 use Rattle.raw_live.specs.Judging.{IsIntakeOf}
@@ -40,7 +39,3 @@ pub record Live (bytes : List ℕ) (set : ProgramSet) : Type 0 where
   pub says : SaysWords (lines_of bytes)
   pub faultless : (put_by says).fault ≡ None
   pub set_is : set ≡ fed_set says
-
--- the lines that were read: those that a newline ends, or at the end of input all
-abbrev pub AreRead : Option (List ℕ) → List ℕ → List (List ℕ) → Type 0
-AreRead left bytes lines = (lines ≡ whole_lines bytes) ⊎ IsAtEnd left × (lines ≡ lines_of bytes)

@@ -6,7 +6,7 @@ use Rattle.raw_text.specs.Lines.{lines_of}
 use Rattle.raw_model.specs.Program.{ProgramSet}
 use Rattle.raw_queue.specs.declared.item.Item.{Item}
 use Rattle.raw_live_text.specs.declared.head.HeadEnd.TheVariants.{Open}
-use Rattle.raw_live_text.specs.Feeding.{Fed, fed, whole_lines, BeginsItems, IsPiece}
+use Rattle.raw_live_text.specs.Feeding.{Fed, fed, whole_lines, BeginsItems, IsPiece, AreRead}
 use Rattle.raw_live_text.specs.Heads.{head_of}
 use Rattle.raw_live.specs.Engine.{with_items, AreSets}
 use Rattle.raw_live.specs.Due.{live_text, due_text}
@@ -15,7 +15,7 @@ use Rattle.raw_shell.specs.declared.failure.Failure.TheVariants.{Use, Refused, R
 use Rattle.raw_shell.specs.Seen.{SourceSeen, SinkSeen, ReadFails, limit}
 use Rattle.raw_live_head.specs.declared.flaw.LineFlaw.TheVariants.{Put}
 use Rattle.raw_live_run.specs.Answers.{Answer}
-use Rattle.raw_live_run.specs.Live.{live_word, SaysWords, put_by, AreRead}
+use Rattle.raw_live_run.specs.Live.{live_word, SaysWords, put_by}
 
 -- the words were put by lines without a fault
 abbrev pub AreAllPut : Fed → List Item → Type 0

@@ -34,6 +34,10 @@ last_of (piece ∷ next ∷ more) = last_of (next ∷ more)
 unfoldable pub whole_lines : List ℕ → List (List ℕ)
 whole_lines bytes = but_last (slice_split is_newline bytes)
 
+-- the lines that were read: those that a newline ends, or at the end of input all
+abbrev pub AreRead : Option (List ℕ) → List ℕ → List (List ℕ) → Type 0
+AreRead left bytes lines = (lines ≡ whole_lines bytes) ⊎ IsAtEnd left × (lines ≡ lines_of bytes)
+
 -- what stands behind the last newline
 unfoldable pub last_piece : List ℕ → List ℕ
 last_piece bytes = last_of (slice_split is_newline bytes)
