@@ -38,9 +38,48 @@ programs_changed n t parts chunk x h is others =
         get_or-set_other (programs_of n parts) t k x d ne ∙ program_at n parts k d l ∙ sym (others k ne) ∙ sym (program_at n (parts ++ chunk) k d l))
         (cases_eq k t)
 
+-- where the chunk gives nothing to any of them
+programs_same : (n : ℕ) (parts chunk : List Part) → ((u : ℕ) → u < n → program_of (parts ++ chunk) u ≡ program_of parts u)
+    → programs_of n parts ≡ programs_of n (parts ++ chunk)
+programs_same n parts chunk same =
+    same_lists (programs_of n parts) (programs_of n (parts ++ chunk)) (size ∙ sym (length-map-range_with_len (program_of (parts ++ chunk)) 0 n))
+    (λ k d l. at k d (subst (λ m. k < m) size l))
+  where
+    size : length (programs_of n parts) ≡ n
+    size = length-map-range_with_len (program_of parts) 0 n
+
+    at : (k : ℕ) (d : TileProgram) → k < n → get_or (programs_of n parts) k d ≡ get_or (programs_of n (parts ++ chunk)) k d
+    at k d l = program_at n parts k d l ∙ sym (same k l) ∙ sym (program_at n (parts ++ chunk) k d l)
+
 pub same_program : (c d : List Instruction) (s r : List SwitchInstruction) → c ≡ d → s ≡ r
     → ◌≡◌ {A = TileProgram} record { code = c; switch = s; cells = []; misses = [] } record { code = d; switch = r; cells = []; misses = [] }
 same_program c d s r e f = λ i. record { code = e i; switch = f i; cells = []; misses = [] }
+
+-- an instruction for a tile, or for its switch, changes nothing of the others
+tile_elsewhere : (t : ℕ) (ins : Instruction) (parts : List Part) (u : ℕ) → (u ≡ t → ⊥) → program_of (parts ++ ToTile t ins ∷ []) u ≡ program_of parts u
+tile_elsewhere t ins parts u ne =
+    let chunk : List Part = ToTile t ins ∷ [] in
+    same_program (tile_part u (parts ++ chunk)) (tile_part u parts) (switch_part u (parts ++ chunk)) (switch_part u parts)
+    (tile_part-append u parts chunk ∙ ap (λ xs. tile_part u parts ++ xs) (block_there t u (ins ∷ []) ne) ∙ append-nil (tile_part u parts))
+    (switch_part-append u parts chunk ∙ append-nil (switch_part u parts))
+
+switch_elsewhere : (t : ℕ) (ins : SwitchInstruction) (parts : List Part) (u : ℕ) → (u ≡ t → ⊥) → program_of (parts ++ ToSwitch t ins ∷ []) u ≡ program_of parts u
+switch_elsewhere t ins parts u ne =
+    let chunk : List Part = ToSwitch t ins ∷ [] in
+    same_program (tile_part u (parts ++ chunk)) (tile_part u parts) (switch_part u (parts ++ chunk)) (switch_part u parts)
+    (tile_part-append u parts chunk ∙ append-nil (tile_part u parts))
+    (switch_part-append u parts chunk ∙ ap (λ xs. switch_part u parts ++ xs) (switch_there t u ins ne) ∙ append-nil (switch_part u parts))
+
+-- one for a tile that is not there changes nothing
+pub tile_outside : (n t : ℕ) (ins : Instruction) (old : List TileProgram) → length old ≤ t → Gives n (ToTile t ins ∷ []) old old
+tile_outside n t ins old out parts e =
+    let size : length old ≡ n = ap length e ∙ length-map-range_with_len (program_of parts) 0 n in
+    e ∙ programs_same n parts (ToTile t ins ∷ []) (λ u within. tile_elsewhere t ins parts u (λ (same : u ≡ t). omega arith))
+
+pub switch_outside : (n t : ℕ) (ins : SwitchInstruction) (old : List TileProgram) → length old ≤ t → Gives n (ToSwitch t ins ∷ []) old old
+switch_outside n t ins old out parts e =
+    let size : length old ≡ n = ap length e ∙ length-map-range_with_len (program_of parts) 0 n in
+    e ∙ programs_same n parts (ToSwitch t ins ∷ []) (λ u within. switch_elsewhere t ins parts u (λ (same : u ≡ t). omega arith))
 
 -- a tile is given an instruction
 pub tile_given : (n t : ℕ) (ins : Instruction) (old : List TileProgram) (y : TileProgram) (code : List Instruction) → t < length old → y ≡ get_or old t y → code ≡ y.code ++ ins ∷ []
@@ -56,10 +95,7 @@ tile_given n t ins old y code h there pushed parts e =
     let new : record y { code = code } ≡ program_of (parts ++ chunk) t =
     ap (λ (z : TileProgram). record z { code = code }) was ∙ same_program code (tile_part t (parts ++ chunk)) (switch_part t parts) (switch_part t (parts ++ chunk)) code_is switch_is in
     ap (λ xs. set xs t (record y { code = code })) e
-    ∙ programs_changed n t parts chunk (record y { code = code }) within new
-    (λ u ne. same_program (tile_part u (parts ++ chunk)) (tile_part u parts) (switch_part u (parts ++ chunk)) (switch_part u parts)
-    (tile_part-append u parts chunk ∙ ap (λ xs. tile_part u parts ++ xs) (block_there t u (ins ∷ []) ne) ∙ append-nil (tile_part u parts))
-    (switch_part-append u parts chunk ∙ append-nil (switch_part u parts)))
+    ∙ programs_changed n t parts chunk (record y { code = code }) within new (tile_elsewhere t ins parts)
 
 -- a switch is given an instruction
 pub switch_given : (n t : ℕ) (ins : SwitchInstruction) (old : List TileProgram) (y : TileProgram) (code : List SwitchInstruction) → t < length old → y ≡ get_or old t y → code ≡ y.switch ++ ins ∷ []
@@ -75,10 +111,7 @@ switch_given n t ins old y code h there pushed parts e =
     let new : record y { switch = code } ≡ program_of (parts ++ chunk) t =
     ap (λ (z : TileProgram). record z { switch = code }) was ∙ same_program (tile_part t parts) (tile_part t (parts ++ chunk)) code (switch_part t (parts ++ chunk)) tile_is code_is in
     ap (λ xs. set xs t (record y { switch = code })) e
-    ∙ programs_changed n t parts chunk (record y { switch = code }) within new
-    (λ u ne. same_program (tile_part u (parts ++ chunk)) (tile_part u parts) (switch_part u (parts ++ chunk)) (switch_part u parts)
-    (tile_part-append u parts chunk ∙ append-nil (tile_part u parts))
-    (switch_part-append u parts chunk ∙ ap (λ xs. switch_part u parts ++ xs) (switch_there t u ins ne) ∙ append-nil (switch_part u parts)))
+    ∙ programs_changed n t parts chunk (record y { switch = code }) within new (switch_elsewhere t ins parts)
 
 -- one chunk after another
 pub gives_both : (n : ℕ) (x y : List Part) (a b c : List TileProgram) → Gives n x a b → Gives n y b c → Gives n (x ++ y) a c

@@ -32,25 +32,25 @@ impl From<AllocError> for GiveRefusal {
     }
 }
 
-// Gives a tile one more instruction.
+// Gives a tile one more instruction, if it is there.
 fn push_tile(tiles: &mut Vec<TileProg>, tile: usize, ins: TileIns) -> Result<(), AllocError>
-    requires { tile < length tiles.now.items }
     ensures gives { (n : ℕ) → OnOk result (Gives n (ToTile tile ins ∷ []) tiles.old.items tiles.new.items) }
-    ensures as_many { OnOk result (length tiles.new.items ≡ length tiles.old.items) }
     ensures err { OnErr result (tiles.new.items ≡ tiles.old.items) }
 {
-    tiles[tile].code.push(ins)?;
+    if tile < tiles.len() {
+        tiles[tile].code.push(ins)?;
+    }
     Ok(())
 }
 
-// Gives the switch beside a tile one more instruction.
+// Gives the switch beside a tile one more instruction, if the tile is there.
 fn push_switch(tiles: &mut Vec<TileProg>, tile: usize, ins: SwitchIns) -> Result<(), AllocError>
-    requires { tile < length tiles.now.items }
     ensures gives { (n : ℕ) → OnOk result (Gives n (ToSwitch tile ins ∷ []) tiles.old.items tiles.new.items) }
-    ensures as_many { OnOk result (length tiles.new.items ≡ length tiles.old.items) }
     ensures err { OnErr result (tiles.new.items ≡ tiles.old.items) }
 {
-    tiles[tile].switch.push(ins)?;
+    if tile < tiles.len() {
+        tiles[tile].switch.push(ins)?;
+    }
     Ok(())
 }
 
@@ -106,8 +106,8 @@ fn are_short(tiles: &[TileProg]) -> bool
     true
 }
 
-/// The programs of the tiles of a grid and of their switches, while parts are given to them. Contracts see
-/// the list of them.
+/// The programs of the tiles of a grid and of their switches, while parts are given to them. What is given to a tile that
+/// is not there is given to none. Contracts see the list of the programs.
 #[derive(Drop)]
 pub struct Programs {
     tiles: Vec<TileProg>,
@@ -135,41 +135,37 @@ impl Programs {
     /// Gives a tile one more instruction. `TooMany` is that the tile's program would then have no place left for its
     /// `halt`.
     pub fn give_tile(&mut self, tile: u32, ins: TileIns) -> Result<(), GiveRefusal>
-        requires { tile < length self.now }
         ensures gives { (n : ℕ) → OnOk result (Gives n (ToTile tile ins ∷ []) self.old self.new) }
-        ensures as_many { OnOk result (length self.new ≡ length self.old) }
         ensures too_many { (n : ℕ) → result ≡ Err GiveRefusal.TooMany → Overflows n (ToTile tile ins ∷ []) self.old }
         ensures err { OnErr result (self.new ≡ self.old) }
     {
-        if self.tiles[tile as usize].code.len() + 1 >= MAX_TILE_CODE {
+        let tile = tile as usize;
+        if tile < self.tiles.len() && self.tiles[tile].code.len() + 1 >= MAX_TILE_CODE {
             return Err(GiveRefusal::TooMany);
         }
-        push_tile(&mut self.tiles, tile as usize, ins)?;
+        push_tile(&mut self.tiles, tile, ins)?;
         Ok(())
     }
 
     /// Gives the switch beside a tile one more instruction. `TooMany` is that the switch's program would then
     /// have no place left for its `halt`.
     pub fn give_switch(&mut self, tile: u32, ins: SwitchIns) -> Result<(), GiveRefusal>
-        requires { tile < length self.now }
         ensures gives { (n : ℕ) → OnOk result (Gives n (ToSwitch tile ins ∷ []) self.old self.new) }
-        ensures as_many { OnOk result (length self.new ≡ length self.old) }
         ensures too_many { (n : ℕ) → result ≡ Err GiveRefusal.TooMany → Overflows n (ToSwitch tile ins ∷ []) self.old }
         ensures err { OnErr result (self.new ≡ self.old) }
     {
-        if self.tiles[tile as usize].switch.len() + 1 >= MAX_SWITCH_CODE {
+        let tile = tile as usize;
+        if tile < self.tiles.len() && self.tiles[tile].switch.len() + 1 >= MAX_SWITCH_CODE {
             return Err(GiveRefusal::TooMany);
         }
-        push_switch(&mut self.tiles, tile as usize, ins)?;
+        push_switch(&mut self.tiles, tile, ins)?;
         Ok(())
     }
 
     /// Gives a tile the instructions that load a word into a register, `li $r, W`.
     pub fn give_load(&mut self, tile: u32, register: u8, word: u32) -> Result<(), GiveRefusal>
-        requires tile { tile < length self.now }
-        requires register { register < 32 }
+        requires { register < 32 }
         ensures gives { (n : ℕ) → OnOk result (Gives n (to_tile tile (load register word)) self.old self.new) }
-        ensures as_many { OnOk result (length self.new ≡ length self.old) }
         ensures too_many { (n : ℕ) → result ≡ Err GiveRefusal.TooMany → Overflows n (to_tile tile (load register word)) self.old }
     {
         let (first, second) = li(register, word);

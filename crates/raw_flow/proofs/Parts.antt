@@ -64,29 +64,29 @@ module _ (laws : GivingLaws) where
 
   -- an input is taken
   module _ (flow : Dataflow) (held : List Holding) (place : PortPlace) (v t : ℕ) (sw : SwitchInstruction) (st : Instruction) (at : t ≡ tile_at flow place) (sw_is : sw ≡ from_side place.net place.side)
-      (st_is : st ≡ take_value place.net v) (n : ℕ) where
+      (st_is : st ≡ take_value place.net v) where
     taken_are : ToSwitch t sw ∷ ToTile t st ∷ [] ≡ taken_at flow place v
     taken_are =
         ap (λ (u : ℕ). ToSwitch u sw ∷ ToTile u st ∷ []) at
         ∙ ap (λ ins. ToSwitch (tile_at flow place) ins ∷ ToTile (tile_at flow place) st ∷ []) sw_is
         ∙ ap (λ ins. ToSwitch (tile_at flow place) (from_side place.net place.side) ∷ ToTile (tile_at flow place) ins ∷ []) st_is
 
-    pub taken_given : (a b c : List TileProgram) (marks : List Bool) → Gives n (ToSwitch t sw ∷ []) a b → Gives n (ToTile t st ∷ []) b c → AreMarks marks (with_value held v t)
-        → AreGiven n (taken_at flow place v) (with_value held v (tile_at flow place)) a c marks
+    pub taken_given : (a b c : List TileProgram) (marks : List Bool) → Gives (tiles_in flow) (ToSwitch t sw ∷ []) a b → Gives (tiles_in flow) (ToTile t st ∷ []) b c → AreMarks flow marks (with_value held v t)
+        → AreGiven flow (taken_at flow place v) (with_value held v (tile_at flow place)) a c marks
     taken_given a b c marks x y m = record {
-      gives = subst (λ (ps : List Part). Gives n ps a c) taken_are (laws.both n (ToSwitch t sw ∷ []) (ToTile t st ∷ []) a b c x y);
-      marked = subst (λ (u : ℕ). AreMarks marks (with_value held v u)) at m;
+      gives = subst (λ (ps : List Part). Gives (tiles_in flow) ps a c) taken_are (laws.both (tiles_in flow) (ToSwitch t sw ∷ []) (ToTile t st ∷ []) a b c x y);
+      marked = subst (λ (u : ℕ). AreMarks flow marks (with_value held v u)) at m;
     }
 
-    pub switch_full : (a : List TileProgram) → Overflows n (ToSwitch t sw ∷ []) a → Overflows n (taken_at flow place v) a
-    switch_full a full = subst (λ (ps : List Part). Overflows n ps a) taken_are (laws.more n (ToSwitch t sw ∷ []) (ToTile t st ∷ []) a full)
+    pub switch_full : (a : List TileProgram) → Overflows (tiles_in flow) (ToSwitch t sw ∷ []) a → Overflows (tiles_in flow) (taken_at flow place v) a
+    switch_full a full = subst (λ (ps : List Part). Overflows (tiles_in flow) ps a) taken_are (laws.more (tiles_in flow) (ToSwitch t sw ∷ []) (ToTile t st ∷ []) a full)
 
-    pub store_full : (a b : List TileProgram) → Gives n (ToSwitch t sw ∷ []) a b → Overflows n (ToTile t st ∷ []) b → Overflows n (taken_at flow place v) a
-    store_full a b x full = subst (λ (ps : List Part). Overflows n ps a) taken_are (laws.later n (ToSwitch t sw ∷ []) (ToTile t st ∷ []) a b x full)
+    pub store_full : (a b : List TileProgram) → Gives (tiles_in flow) (ToSwitch t sw ∷ []) a b → Overflows (tiles_in flow) (ToTile t st ∷ []) b → Overflows (tiles_in flow) (taken_at flow place v) a
+    store_full a b x full = subst (λ (ps : List Part). Overflows (tiles_in flow) ps a) taken_are (laws.later (tiles_in flow) (ToSwitch t sw ∷ []) (ToTile t st ∷ []) a b x full)
 
   -- an out is given
   module _ (flow : Dataflow) (ports : FlowPorts) (held : List Holding) (place : PortPlace) (v t : ℕ) (lw : Instruction) (sw : SwitchInstruction) (at : t ≡ tile_at flow place) (lw_is : lw ≡ send_value place.net v)
-      (sw_is : sw ≡ to_side place.net place.side) (n : ℕ) where
+      (sw_is : sw ≡ to_side place.net place.side) where
     abbrev way : List Part
     way = moved flow ports held v t
 
@@ -96,26 +96,26 @@ module _ (laws : GivingLaws) where
         ∙ ap (λ ins. moved flow ports held v (tile_at flow place) ++ (ToTile (tile_at flow place) ins ∷ ToSwitch (tile_at flow place) sw ∷ [])) lw_is
         ∙ ap (λ ins. moved flow ports held v (tile_at flow place) ++ (ToTile (tile_at flow place) (send_value place.net v) ∷ ToSwitch (tile_at flow place) ins ∷ [])) sw_is
 
-    pub out_given : (a b c d : List TileProgram) (marks : List Bool) → AreGiven n way (with_value held v t) a b marks → Gives n (ToTile t lw ∷ []) b c → Gives n (ToSwitch t sw ∷ []) c d
-        → AreGiven n (given_at flow ports held place v) (with_value held v (tile_at flow place)) a d marks
+    pub out_given : (a b c d : List TileProgram) (marks : List Bool) → AreGiven flow way (with_value held v t) a b marks → Gives (tiles_in flow) (ToTile t lw ∷ []) b c → Gives (tiles_in flow) (ToSwitch t sw ∷ []) c d
+        → AreGiven flow (given_at flow ports held place v) (with_value held v (tile_at flow place)) a d marks
     out_given a b c d marks g x y = record {
-      gives = subst (λ (ps : List Part). Gives n ps a d) given_are
-          (laws.both n way ((ToTile t lw ∷ []) ++ ToSwitch t sw ∷ []) a b d g.gives (laws.both n (ToTile t lw ∷ []) (ToSwitch t sw ∷ []) b c d x y));
-      marked = subst (λ (u : ℕ). AreMarks marks (with_value held v u)) at g.marked;
+      gives = subst (λ (ps : List Part). Gives (tiles_in flow) ps a d) given_are
+          (laws.both (tiles_in flow) way ((ToTile t lw ∷ []) ++ ToSwitch t sw ∷ []) a b d g.gives (laws.both (tiles_in flow) (ToTile t lw ∷ []) (ToSwitch t sw ∷ []) b c d x y));
+      marked = subst (λ (u : ℕ). AreMarks flow marks (with_value held v u)) at g.marked;
     }
 
-    pub way_full : (a : List TileProgram) → Overflows n way a → Overflows n (given_at flow ports held place v) a
-    way_full a full = subst (λ (ps : List Part). Overflows n ps a) given_are (laws.more n way ((ToTile t lw ∷ []) ++ ToSwitch t sw ∷ []) a full)
+    pub way_full : (a : List TileProgram) → Overflows (tiles_in flow) way a → Overflows (tiles_in flow) (given_at flow ports held place v) a
+    way_full a full = subst (λ (ps : List Part). Overflows (tiles_in flow) ps a) given_are (laws.more (tiles_in flow) way ((ToTile t lw ∷ []) ++ ToSwitch t sw ∷ []) a full)
 
-    pub send_full : (a b : List TileProgram) → Gives n way a b → Overflows n (ToTile t lw ∷ []) b → Overflows n (given_at flow ports held place v) a
+    pub send_full : (a b : List TileProgram) → Gives (tiles_in flow) way a b → Overflows (tiles_in flow) (ToTile t lw ∷ []) b → Overflows (tiles_in flow) (given_at flow ports held place v) a
     send_full a b g full =
-        subst (λ (ps : List Part). Overflows n ps a) given_are
-        (laws.later n way ((ToTile t lw ∷ []) ++ ToSwitch t sw ∷ []) a b g (laws.more n (ToTile t lw ∷ []) (ToSwitch t sw ∷ []) b full))
+        subst (λ (ps : List Part). Overflows (tiles_in flow) ps a) given_are
+        (laws.later (tiles_in flow) way ((ToTile t lw ∷ []) ++ ToSwitch t sw ∷ []) a b g (laws.more (tiles_in flow) (ToTile t lw ∷ []) (ToSwitch t sw ∷ []) b full))
 
-    pub pass_full : (a b c : List TileProgram) → Gives n way a b → Gives n (ToTile t lw ∷ []) b c → Overflows n (ToSwitch t sw ∷ []) c → Overflows n (given_at flow ports held place v) a
+    pub pass_full : (a b c : List TileProgram) → Gives (tiles_in flow) way a b → Gives (tiles_in flow) (ToTile t lw ∷ []) b c → Overflows (tiles_in flow) (ToSwitch t sw ∷ []) c → Overflows (tiles_in flow) (given_at flow ports held place v) a
     pass_full a b c g x full =
-        subst (λ (ps : List Part). Overflows n ps a) given_are
-        (laws.later n way ((ToTile t lw ∷ []) ++ ToSwitch t sw ∷ []) a b g (laws.later n (ToTile t lw ∷ []) (ToSwitch t sw ∷ []) b c x full))
+        subst (λ (ps : List Part). Overflows (tiles_in flow) ps a) given_are
+        (laws.later (tiles_in flow) way ((ToTile t lw ∷ []) ++ ToSwitch t sw ∷ []) a b g (laws.later (tiles_in flow) (ToTile t lw ∷ []) (ToSwitch t sw ∷ []) b c x full))
 
   -- an operation: both values are moved, and it is done
   module _ (flow : Dataflow) (ports : FlowPorts) (held : List Holding) (v : ℕ) (op : FlowOp) (a b t : ℕ) (at : t ≡ home flow ports v) where
@@ -134,12 +134,12 @@ module _ (laws : GivingLaws) where
     apply_parts : front ++ (next ++ block) ≡ node_parts flow ports held v (Apply op a b)
     apply_parts = ap (λ (h : ℕ). moved flow ports held a h ++ (moved flow ports (with_value held a h) b h ++ to_tile h (apply_code v op a b))) at
 
-    pub apply_given : (x y z w : List TileProgram) (m1 m2 m3 : List Bool) → AreGiven m front (with_value held a t) x y m1 → AreGiven m next (with_value (with_value held a t) b t) y z m2
-        → Gives m block z w → AreMarks m3 (with_value (with_value (with_value held a t) b t) v t)
-        → AreGiven m (node_parts flow ports held v (Apply op a b)) (held_node flow ports held v (Apply op a b)) x w m3
+    pub apply_given : (x y z w : List TileProgram) (m1 m2 m3 : List Bool) → AreGiven flow front (with_value held a t) x y m1 → AreGiven flow next (with_value (with_value held a t) b t) y z m2
+        → Gives m block z w → AreMarks flow m3 (with_value (with_value (with_value held a t) b t) v t)
+        → AreGiven flow (node_parts flow ports held v (Apply op a b)) (held_node flow ports held v (Apply op a b)) x w m3
     apply_given x y z w m1 m2 m3 g h k marks = record {
       gives = subst (λ (ps : List Part). Gives m ps x w) apply_parts (laws.both m front (next ++ block) x y w g.gives (laws.both m next block y z w h.gives k));
-      marked = subst (λ (u : ℕ). AreMarks m3 (with_value (with_value (with_value held a u) b u) v u)) at marks;
+      marked = subst (λ (u : ℕ). AreMarks flow m3 (with_value (with_value (with_value held a u) b u) v u)) at marks;
     }
 
     pub front_full : (x : List TileProgram) → Overflows m front x → Overflows m (node_parts flow ports held v (Apply op a b)) x

@@ -10,7 +10,7 @@ use Rattle.raw_flow.specs.declared.node.Node.{Node}
 use Rattle.raw_flow.specs.Flows.{Dataflow, with_input, inputs_in}
 use Rattle.raw_flow.specs.Places.{Holding, AreMarks, with_value}
 use Rattle.raw_flow.specs.Ports.{FlowPorts, sink_of}
-use Rattle.raw_flow.specs.Compiled.{sink_tile, input_parts, held_input, inputs_from, held_inputs, node_parts, held_node, nodes_from, held_nodes, given_at, outs_from}
+use Rattle.raw_flow.specs.Compiled.{tiles_in, sink_tile, input_parts, held_input, inputs_from, held_inputs, node_parts, held_node, nodes_from, held_nodes, given_at, outs_from}
 use Rattle.raw_flow.specs.Given.{AreGiven}
 use Rattle.raw_flow.proofs.Counting.{inputs_next}
 use Rattle.raw_flow.proofs.Phases.{held_outs}
@@ -19,11 +19,11 @@ use Rattle.raw_route.proofs.HaulParts.{GivingLaws}
 
 -- from place i on, `rest` are the parts that are given where these are held, and `last` is what is held after them; the programs have come
 -- from their first ones to place i
-pub record IsAt (n : ℕ) (rest : List Holding → ℕ → List Part) (last : List Holding → ℕ → List Holding) (first : List Holding) (a b : List TileProgram) (marks : List Bool) (i : ℕ) : Type 0 where
+pub record IsAt (flow : Dataflow) (rest : List Holding → ℕ → List Part) (last : List Holding → ℕ → List Holding) (first : List Holding) (a b : List TileProgram) (marks : List Bool) (i : ℕ) : Type 0 where
   pub held : List Holding
   pub front : List Part
-  pub gives : Gives n front a b
-  pub marked : AreMarks marks held
+  pub gives : Gives (tiles_in flow) front a b
+  pub marked : AreMarks flow marks held
   pub parts : front ++ rest held i ≡ rest first 0
   pub ends : last held i ≡ last first 0
 
@@ -34,30 +34,30 @@ pub record Chunk (rest : List Holding → ℕ → List Part) (last : List Holdin
   pub whole : rest held i ≡ parts ++ rest after (i + 1)
   pub ends : last held i ≡ last after (i + 1)
 
-module _ (laws : GivingLaws) (n : ℕ) (rest : List Holding → ℕ → List Part) (last : List Holding → ℕ → List Holding) (first : List Holding) (a : List TileProgram) where
-  pub at_first : (marks : List Bool) → AreMarks marks first → IsAt n rest last first a a marks 0
-  at_first marks are = record { held = first; front = []; gives = laws.none n a; marked = are; parts = refl; ends = refl }
+module _ (laws : GivingLaws) (flow : Dataflow) (rest : List Holding → ℕ → List Part) (last : List Holding → ℕ → List Holding) (first : List Holding) (a : List TileProgram) where
+  pub at_first : (marks : List Bool) → AreMarks flow marks first → IsAt flow rest last first a a marks 0
+  at_first marks are = record { held = first; front = []; gives = laws.none (tiles_in flow) a; marked = are; parts = refl; ends = refl }
 
-  module _ (b : List TileProgram) (marks : List Bool) (i : ℕ) (at : IsAt n rest last first a b marks i) (chunk : Chunk rest last at.held i) where
-    pub at_next : (c : List TileProgram) (after : List Bool) → AreGiven n chunk.parts chunk.after b c after → IsAt n rest last first a c after (i + 1)
+  module _ (b : List TileProgram) (marks : List Bool) (i : ℕ) (at : IsAt flow rest last first a b marks i) (chunk : Chunk rest last at.held i) where
+    pub at_next : (c : List TileProgram) (after : List Bool) → AreGiven flow chunk.parts chunk.after b c after → IsAt flow rest last first a c after (i + 1)
     at_next c after given = record {
       held = chunk.after;
       front = at.front ++ chunk.parts;
-      gives = laws.both n at.front chunk.parts a b c at.gives given.gives;
+      gives = laws.both (tiles_in flow) at.front chunk.parts a b c at.gives given.gives;
       marked = given.marked;
       parts = append_assoc at.front chunk.parts (rest chunk.after (i + 1)) ∙ ap (λ ps. at.front ++ ps) (sym chunk.whole) ∙ at.parts;
       ends = sym chunk.ends ∙ at.ends;
     }
 
-    pub too_long : Overflows n chunk.parts b → Overflows n (rest first 0) a
+    pub too_long : Overflows (tiles_in flow) chunk.parts b → Overflows (tiles_in flow) (rest first 0) a
     too_long full =
-        subst (λ (ps : List Part). Overflows n ps a) (ap (λ ps. at.front ++ ps) (sym chunk.whole) ∙ at.parts)
-        (laws.later n at.front (chunk.parts ++ rest chunk.after (i + 1)) a b at.gives (laws.more n chunk.parts (rest chunk.after (i + 1)) b full))
+        subst (λ (ps : List Part). Overflows (tiles_in flow) ps a) (ap (λ ps. at.front ++ ps) (sym chunk.whole) ∙ at.parts)
+        (laws.later (tiles_in flow) at.front (chunk.parts ++ rest chunk.after (i + 1)) a b at.gives (laws.more (tiles_in flow) chunk.parts (rest chunk.after (i + 1)) b full))
 
-  pub at_last : (b : List TileProgram) (marks : List Bool) (i : ℕ) (at : IsAt n rest last first a b marks i) → rest at.held i ≡ [] → last at.held i ≡ at.held → AreGiven n (rest first 0) (last first 0) a b marks
+  pub at_last : (b : List TileProgram) (marks : List Bool) (i : ℕ) (at : IsAt flow rest last first a b marks i) → rest at.held i ≡ [] → last at.held i ≡ at.held → AreGiven flow (rest first 0) (last first 0) a b marks
   at_last b marks i at none same = record {
-    gives = subst (λ (ps : List Part). Gives n ps a b) (sym (append-nil at.front) ∙ ap (λ ps. at.front ++ ps) (sym none) ∙ at.parts) at.gives;
-    marked = subst (λ (held : List Holding). AreMarks marks held) (sym same ∙ at.ends) at.marked;
+    gives = subst (λ (ps : List Part). Gives (tiles_in flow) ps a b) (sym (append-nil at.front) ∙ ap (λ ps. at.front ++ ps) (sym none) ∙ at.parts) at.gives;
+    marked = subst (λ (held : List Holding). AreMarks flow marks held) (sym same ∙ at.ends) at.marked;
   }
 
 -- inputs, other nodes and outs from a place on, and what is held after them

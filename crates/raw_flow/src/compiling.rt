@@ -6,7 +6,7 @@ ghost use Rattle.raw_flow.specs.Flows.{inputs_in};
 ghost use Rattle.raw_flow.specs.Places.{Holding, AreMarks};
 ghost use Rattle.raw_flow.specs.Ports.{ArePorts};
 ghost use Rattle.raw_flow.specs.Compiled.{tiles_in, inputs_from, held_inputs, nodes_from, held_nodes, outs_from, flow_parts, compiled_at, compiled};
-ghost use Rattle.raw_flow.specs.Given.{AreGiven, AreReady};
+ghost use Rattle.raw_flow.specs.Given.{AreGiven};
 ghost use Rattle.raw_flow.specs.Right.{EachRunIsRightAt, EachRunIsRight};
 
 use crate::flow::Flow;
@@ -27,15 +27,14 @@ fn give_inputs(
     flow: &Flow,
     ports: &Ports,
 ) -> Result<(), GiveRefusal>
-    requires ports { ArePorts flow.now ports.now }
-    requires ready { AreReady flow.now programs.now places.now }
-    ensures given { (held : List Holding) → AreMarks places.old held →
-        OnOk result (AreGiven (tiles_in flow.now) (inputs_from flow.now ports.now 0 0 flow.now.nodes) (held_inputs flow.now ports.now held 0 0 flow.now.nodes) programs.old programs.new places.new) }
-    ensures ready { OnOk result (AreReady flow.now programs.new places.new) }
-    ensures too_many { (held : List Holding) → AreMarks places.old held → result ≡ Err GiveRefusal.TooMany →
+    requires { ArePorts flow.now ports.now }
+    ensures given { (held : List Holding) → AreMarks flow.now places.old held →
+        OnOk result (AreGiven flow.now (inputs_from flow.now ports.now 0 0 flow.now.nodes) (held_inputs flow.now ports.now held 0 0 flow.now.nodes) programs.old programs.new places.new) }
+    ensures too_many { (held : List Holding) → AreMarks flow.now places.old held → result ≡ Err GiveRefusal.TooMany →
         Overflows (tiles_in flow.now) (inputs_from flow.now ports.now 0 0 flow.now.nodes) programs.old }
 {
     law_giving();
+    keeps_rules(flow);
     let mut taken = 0;
     for v in 0..flow.nodes.len() {
         taken = give_input(
@@ -59,15 +58,14 @@ fn give_nodes(
     flow: &Flow,
     ports: &Ports,
 ) -> Result<(), GiveRefusal>
-    requires ports { ArePorts flow.now ports.now }
-    requires ready { AreReady flow.now programs.now places.now }
-    ensures given { (held : List Holding) → AreMarks places.old held →
-        OnOk result (AreGiven (tiles_in flow.now) (nodes_from flow.now ports.now held 0 flow.now.nodes) (held_nodes flow.now ports.now held 0 flow.now.nodes) programs.old programs.new places.new) }
-    ensures ready { OnOk result (AreReady flow.now programs.new places.new) }
-    ensures too_many { (held : List Holding) → AreMarks places.old held → result ≡ Err GiveRefusal.TooMany →
+    requires { ArePorts flow.now ports.now }
+    ensures given { (held : List Holding) → AreMarks flow.now places.old held →
+        OnOk result (AreGiven flow.now (nodes_from flow.now ports.now held 0 flow.now.nodes) (held_nodes flow.now ports.now held 0 flow.now.nodes) programs.old programs.new places.new) }
+    ensures too_many { (held : List Holding) → AreMarks flow.now places.old held → result ≡ Err GiveRefusal.TooMany →
         Overflows (tiles_in flow.now) (nodes_from flow.now ports.now held 0 flow.now.nodes) programs.old }
 {
     law_giving();
+    keeps_rules(flow);
     for v in 0..flow.nodes.len() {
         give_node(
             alloc,
@@ -90,14 +88,14 @@ fn give_outs(
     flow: &Flow,
     ports: &Ports,
 ) -> Result<(), GiveRefusal>
-    requires ports { ArePorts flow.now ports.now }
-    requires ready { AreReady flow.now programs.now places.now }
-    ensures gives { (held : List Holding) → AreMarks places.old held →
+    requires { ArePorts flow.now ports.now }
+    ensures gives { (held : List Holding) → AreMarks flow.now places.old held →
         OnOk result (Gives (tiles_in flow.now) (outs_from flow.now ports.now held 0 flow.now.outs) programs.old programs.new) }
-    ensures too_many { (held : List Holding) → AreMarks places.old held → result ≡ Err GiveRefusal.TooMany →
+    ensures too_many { (held : List Holding) → AreMarks flow.now places.old held → result ≡ Err GiveRefusal.TooMany →
         Overflows (tiles_in flow.now) (outs_from flow.now ports.now held 0 flow.now.outs) programs.old }
 {
     law_giving();
+    keeps_rules(flow);
     for i in 0..flow.outs.len() {
         give_out(alloc, programs, places, flow, ports, i, flow.outs[i])?;
     }
@@ -113,7 +111,7 @@ fn programs(alloc: Global, flow: &Flow, ports: &Ports) -> Result<Vec<TileProg>, 
 {
     law_giving();
     let mut programs = Programs::new(alloc, tiles_in(flow))?;
-    let mut places = Places::new(alloc, flow.nodes.len())?;
+    let mut places = Places::new(alloc, flow)?;
     give_inputs(&mut programs, &mut places, flow, ports)?;
     give_nodes(alloc, &mut programs, &mut places, flow, ports)?;
     give_outs(alloc, &mut programs, &mut places, flow, ports)?;

@@ -7,7 +7,7 @@ ghost use Rattle.raw_flow.specs.Flows.{IsNode, with_input, inputs_in};
 ghost use Rattle.raw_flow.specs.Places.{Holding, with_value, AreMarks};
 ghost use Rattle.raw_flow.specs.Ports.{source_of, sink_of, ArePorts};
 ghost use Rattle.raw_flow.specs.Compiled.{tiles_in, source_tile, sink_tile, home, op_ins, one_haul, carried, moved, taken_at, const_code, apply_code, input_parts, held_input, node_parts, held_node, given_at};
-ghost use Rattle.raw_flow.specs.Given.{AreGiven, AreReady, NodeStands};
+ghost use Rattle.raw_flow.specs.Given.{AreGiven, NodeStands};
 
 use crate::flow::{Flow, with_input};
 use crate::limits::MAX_NODES;
@@ -130,8 +130,7 @@ fn sink_tile(flow: &Flow, ports: &Ports, i: usize) -> u32
 // The tile at which a node's value is made.
 #[tactic(auto, unfolding(crate::specs::Compiled::home))]
 fn home(flow: &Flow, ports: &Ports, v: u32) -> u32
-    requires value { v < length flow.now.nodes }
-    requires ports { ArePorts flow.now ports.now }
+    requires { NodeStands flow.now ports.now v }
     ensures value { result ≡ home flow.now ports.now v }
     ensures inside { result < tiles_in flow.now }
 {
@@ -162,12 +161,9 @@ fn carry(
     v: u32,
     t: u32,
 ) -> Result<(), GiveRefusal>
-    requires value { v < length flow.now.nodes }
-    requires ports { ArePorts flow.now ports.now }
+    requires stands { NodeStands flow.now ports.now v }
     requires tile { t < tiles_in flow.now }
-    requires programs { length programs.now ≡ tiles_in flow.now }
     ensures gives { OnOk result (Gives (tiles_in flow.now) (carried flow.now ports.now v t) programs.old programs.new) }
-    ensures as_many { OnOk result (length programs.new ≡ length programs.old) }
     ensures too_many { result ≡ Err GiveRefusal.TooMany → Overflows (tiles_in flow.now) (carried flow.now ports.now v t) programs.old }
 {
     law_giving();
@@ -189,12 +185,11 @@ fn move_value(
     v: u32,
     t: u32,
 ) -> Result<(), GiveRefusal>
-    requires stands { NodeStands flow.now ports.now programs.now places.now v }
+    requires stands { NodeStands flow.now ports.now v }
     requires tile { t < tiles_in flow.now }
-    ensures moved { (held : List Holding) → AreMarks places.old held →
-        OnOk result (AreGiven (tiles_in flow.now) (moved flow.now ports.now held v t) (with_value held v t) programs.old programs.new places.new) }
-    ensures ready { OnOk result (AreReady flow.now programs.new places.new) }
-    ensures too_many { (held : List Holding) → AreMarks places.old held → result ≡ Err GiveRefusal.TooMany →
+    ensures moved { (held : List Holding) → AreMarks flow.now places.old held →
+        OnOk result (AreGiven flow.now (moved flow.now ports.now held v t) (with_value held v t) programs.old programs.new places.new) }
+    ensures too_many { (held : List Holding) → AreMarks flow.now places.old held → result ≡ Err GiveRefusal.TooMany →
         Overflows (tiles_in flow.now) (moved flow.now ports.now held v t) programs.old }
 {
     if !places.has(v, t) {
@@ -214,10 +209,9 @@ fn take_input(
     v: u32,
 ) -> Result<(), GiveRefusal>
     requires input { k < inputs_in flow.now.nodes }
-    requires stands { NodeStands flow.now ports.now programs.now places.now v }
-    ensures given { (held : List Holding) → AreMarks places.old held →
-        OnOk result (AreGiven (tiles_in flow.now) (taken_at flow.now (source_of ports.now k) v) (with_value held v (source_tile flow.now ports.now k)) programs.old programs.new places.new) }
-    ensures ready { OnOk result (AreReady flow.now programs.new places.new) }
+    requires stands { NodeStands flow.now ports.now v }
+    ensures given { (held : List Holding) → AreMarks flow.now places.old held →
+        OnOk result (AreGiven flow.now (taken_at flow.now (source_of ports.now k) v) (with_value held v (source_tile flow.now ports.now k)) programs.old programs.new places.new) }
     ensures too_many { result ≡ Err GiveRefusal.TooMany → Overflows (tiles_in flow.now) (taken_at flow.now (source_of ports.now k) v) programs.old }
 {
     law_giving();
@@ -240,11 +234,10 @@ pub(crate) fn give_input(
     node: Node,
 ) -> Result<usize, GiveRefusal>
     requires inputs { with_input node k ≤ inputs_in flow.now.nodes }
-    requires stands { NodeStands flow.now ports.now programs.now places.now v }
+    requires stands { NodeStands flow.now ports.now v }
     ensures count { IfOk result (λ next. next ≡ with_input node k) }
-    ensures given { (held : List Holding) → AreMarks places.old held →
-        OnOk result (AreGiven (tiles_in flow.now) (input_parts flow.now ports.now k v node) (held_input flow.now ports.now held k v node) programs.old programs.new places.new) }
-    ensures ready { OnOk result (AreReady flow.now programs.new places.new) }
+    ensures given { (held : List Holding) → AreMarks flow.now places.old held →
+        OnOk result (AreGiven flow.now (input_parts flow.now ports.now k v node) (held_input flow.now ports.now held k v node) programs.old programs.new places.new) }
     ensures too_many { result ≡ Err GiveRefusal.TooMany → Overflows (tiles_in flow.now) (input_parts flow.now ports.now k v node) programs.old }
 {
     law_giving();
@@ -260,10 +253,8 @@ pub(crate) fn give_input(
 
 // A tile loads a word, and stores it as the value of a node.
 fn give_const(programs: &mut Programs, t: u32, v: u32, word: u32) -> Result<(), GiveRefusal>
-    requires tile { t < length programs.now }
-    requires value { v < MAX_NODES }
+    requires { v < MAX_NODES }
     ensures gives { (n : ℕ) → OnOk result (Gives n (to_tile t (const_code v word)) programs.old programs.new) }
-    ensures as_many { OnOk result (length programs.new ≡ length programs.old) }
     ensures too_many { (n : ℕ) → result ≡ Err GiveRefusal.TooMany → Overflows n (to_tile t (const_code v word)) programs.old }
 {
     law_giving();
@@ -280,12 +271,10 @@ fn give_operation(
     a: u32,
     b: u32,
 ) -> Result<(), GiveRefusal>
-    requires tile { t < length programs.now }
     requires value { v < MAX_NODES }
     requires first { a < MAX_NODES }
     requires second { b < MAX_NODES }
     ensures gives { (n : ℕ) → OnOk result (Gives n (to_tile t (apply_code v op a b)) programs.old programs.new) }
-    ensures as_many { OnOk result (length programs.new ≡ length programs.old) }
     ensures too_many { (n : ℕ) → result ≡ Err GiveRefusal.TooMany → Overflows n (to_tile t (apply_code v op a b)) programs.old }
 {
     law_giving();
@@ -307,13 +296,12 @@ fn give_apply(
     a: u32,
     b: u32,
 ) -> Result<(), GiveRefusal>
-    requires stands { NodeStands flow.now ports.now programs.now places.now v }
+    requires stands { NodeStands flow.now ports.now v }
     requires first { a < v }
     requires second { b < v }
-    ensures given { (held : List Holding) → AreMarks places.old held →
-        OnOk result (AreGiven (tiles_in flow.now) (node_parts flow.now ports.now held v (Node.Apply op a b)) (held_node flow.now ports.now held v (Node.Apply op a b)) programs.old programs.new places.new) }
-    ensures ready { OnOk result (AreReady flow.now programs.new places.new) }
-    ensures too_many { (held : List Holding) → AreMarks places.old held → result ≡ Err GiveRefusal.TooMany →
+    ensures given { (held : List Holding) → AreMarks flow.now places.old held →
+        OnOk result (AreGiven flow.now (node_parts flow.now ports.now held v (Node.Apply op a b)) (held_node flow.now ports.now held v (Node.Apply op a b)) programs.old programs.new places.new) }
+    ensures too_many { (held : List Holding) → AreMarks flow.now places.old held → result ≡ Err GiveRefusal.TooMany →
         Overflows (tiles_in flow.now) (node_parts flow.now ports.now held v (Node.Apply op a b)) programs.old }
 {
     law_giving();
@@ -335,12 +323,11 @@ pub(crate) fn give_node(
     v: u32,
     node: Node,
 ) -> Result<(), GiveRefusal>
-    requires stands { NodeStands flow.now ports.now programs.now places.now v }
+    requires stands { NodeStands flow.now ports.now v }
     requires node { IsNode v node }
-    ensures given { (held : List Holding) → AreMarks places.old held →
-        OnOk result (AreGiven (tiles_in flow.now) (node_parts flow.now ports.now held v node) (held_node flow.now ports.now held v node) programs.old programs.new places.new) }
-    ensures ready { OnOk result (AreReady flow.now programs.new places.new) }
-    ensures too_many { (held : List Holding) → AreMarks places.old held → result ≡ Err GiveRefusal.TooMany →
+    ensures given { (held : List Holding) → AreMarks flow.now places.old held →
+        OnOk result (AreGiven flow.now (node_parts flow.now ports.now held v node) (held_node flow.now ports.now held v node) programs.old programs.new places.new) }
+    ensures too_many { (held : List Holding) → AreMarks flow.now places.old held → result ≡ Err GiveRefusal.TooMany →
         Overflows (tiles_in flow.now) (node_parts flow.now ports.now held v node) programs.old }
 {
     law_giving();
@@ -367,11 +354,10 @@ pub(crate) fn give_out(
     v: u32,
 ) -> Result<(), GiveRefusal>
     requires out { i < length flow.now.outs }
-    requires stands { NodeStands flow.now ports.now programs.now places.now v }
-    ensures given { (held : List Holding) → AreMarks places.old held →
-        OnOk result (AreGiven (tiles_in flow.now) (given_at flow.now ports.now held (sink_of ports.now i) v) (with_value held v (sink_tile flow.now ports.now i)) programs.old programs.new places.new) }
-    ensures ready { OnOk result (AreReady flow.now programs.new places.new) }
-    ensures too_many { (held : List Holding) → AreMarks places.old held → result ≡ Err GiveRefusal.TooMany →
+    requires stands { NodeStands flow.now ports.now v }
+    ensures given { (held : List Holding) → AreMarks flow.now places.old held →
+        OnOk result (AreGiven flow.now (given_at flow.now ports.now held (sink_of ports.now i) v) (with_value held v (sink_tile flow.now ports.now i)) programs.old programs.new places.new) }
+    ensures too_many { (held : List Holding) → AreMarks flow.now places.old held → result ≡ Err GiveRefusal.TooMany →
         Overflows (tiles_in flow.now) (given_at flow.now ports.now held (sink_of ports.now i) v) programs.old }
 {
     law_giving();

@@ -1,8 +1,9 @@
 //! Which tiles have which values, while programs are made.
-ghost use Rattle.std.specs.Prelude.{◌≡◌, ◌+◌, ◌*◌, ◌<◌, ◌≤◌, [], List, length, IfOk};
+ghost use Rattle.std.specs.Prelude.{◌≡◌, ◌<◌, [], List, length, IfOk};
+ghost use Rattle.raw_flow.specs.Flows.{Dataflow};
 ghost use Rattle.raw_flow.specs.Places.{Holding, has, with_value, AreMarks};
 
-use crate::limits::MAX_NODES;
+use crate::flow::Flow;
 use raw_grid::MAX_TILES;
 use std::alloc::{AllocError, Global};
 use std::marker::Model;
@@ -22,33 +23,36 @@ impl Model for Places {
 }
 
 impl Places {
-    /// So many values, which no tile has.
-    pub(crate) fn new(alloc: Global, values: usize) -> Result<Places, AllocError>
-        requires { values ≤ MAX_NODES }
-        ensures none { IfOk result (λ places. AreMarks places []) }
-        ensures size { IfOk result (λ places. length places ≡ values * MAX_TILES) }
+    /// Those of a flow, none of whose values a tile has.
+    pub(crate) fn new(alloc: Global, flow: &Flow) -> Result<Places, AllocError>
+        ensures { IfOk result (λ places. AreMarks flow.now places []) }
     {
         Ok(Places {
-            marks: vec![in alloc; false; values * MAX_TILES]?,
+            marks: vec![in alloc; false; flow.nodes.len() * MAX_TILES]?,
         })
     }
 
     /// Whether a tile has a value.
     pub(crate) fn has(&self, v: u32, t: u32) -> bool
-        requires tile { t < MAX_TILES }
-        requires value { v * MAX_TILES + t < length self.now }
-        ensures { (held : List Holding) → AreMarks self.now held → result ≡ has held v t }
+        ensures { (flow : Dataflow) (held : List Holding) → AreMarks flow self.now held → v < length flow.nodes → t < MAX_TILES →
+            result ≡ has held v t }
     {
-        self.marks[v as usize * MAX_TILES + t as usize]
+        let place = v as usize * MAX_TILES + t as usize;
+        if place < self.marks.len() {
+            self.marks[place]
+        } else {
+            false
+        }
     }
 
     /// A tile has a value from now on.
     pub(crate) fn put(&mut self, v: u32, t: u32)
-        requires tile { t < MAX_TILES }
-        requires value { v * MAX_TILES + t < length self.now }
-        ensures put { (held : List Holding) → AreMarks self.old held → AreMarks self.new (with_value held v t) }
-        ensures size { length self.new ≡ length self.old }
+        requires { t < MAX_TILES }
+        ensures { (flow : Dataflow) (held : List Holding) → AreMarks flow self.old held → AreMarks flow self.new (with_value held v t) }
     {
-        self.marks[v as usize * MAX_TILES + t as usize] = true;
+        let place = v as usize * MAX_TILES + t as usize;
+        if place < self.marks.len() {
+            self.marks[place] = true;
+        }
     }
 }

@@ -116,7 +116,8 @@ pub(crate) fn tiles_in(flow: &Flow) -> u32
 
 /// The rules that the type of a flow keeps.
 pub(crate) fn keeps_rules(flow: &Flow)
-    ensures { IsFlow flow.now }
+    ensures valid { IsFlow flow.now }
+    ensures few { tiles_in flow.now ≤ MAX_TILES }
 {
     tiles_in(flow);
 }

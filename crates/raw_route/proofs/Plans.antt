@@ -6,7 +6,6 @@ use Rattle.std.specs.Prelude.{replicate}
 use Rattle.std.proofs.Math.Nat.{mul-le-mul_left, mul-le-mul_right}
 use Rattle.std.proofs.lemmas.List.{append-nil, take-append-drop}
 use Rattle.std.proofs.lemmas.List.Elements.{All-from_recursion}
-use Rattle.std.proofs.lemmas.List.FromFn.{length-map-range_with_len}
 use Rattle.raw_model.specs.declared.limits.TheConstants.{DEFAULT_DEPTH}
 use Rattle.raw_codegen.specs.declared.limits.TheConstants.{PARTS_LIMIT}
 use Rattle.raw_grid.specs.Topology.{Topology, IsSize, without_ports}
@@ -63,9 +62,6 @@ pub programs_more : (cols rows i : ℕ) (xs : List Sending) (x : Sending) (a b :
 programs_more cols rows i xs x a b next before gives =
     gives (parts_from cols rows [] (take i xs)) before
     ∙ ap (λ ps. programs_of (cols * rows) ps) (sym (ap (parts_from cols rows []) next ∙ parts_more cols rows (take i xs) x))
-
-pub as_many : (n : ℕ) (parts : List Part) (a : List TileProgram) → a ≡ programs_of n parts → length a ≡ n
-as_many n parts a e = ap length e ∙ length-map-range_with_len _ 0 n
 
 module _ (give : PartsGive) (longer : (n : ℕ) (parts more : List Part) → IsTooLong n parts → IsTooLong n (parts ++ more))
     (too_long : (n : ℕ) (parts : List Part) → IsTooLong n parts → AreShort (script_programs n parts) → ⊥) (cols rows : ℕ) (size : IsSize cols rows)

@@ -32,9 +32,7 @@ fn register_of(net: Net) -> u8
 
 // The origin's tile loads the word and sends it.
 fn give_send(programs: &mut Programs, haul: &Haul, word: u32) -> Result<(), GiveRefusal>
-    requires { haul.now.from < length programs.now }
     ensures gives { (n : ℕ) → OnOk result (Gives n (to_tile haul.now.from (send_code haul.now.net word)) programs.old programs.new) }
-    ensures as_many { OnOk result (length programs.new ≡ length programs.old) }
     ensures too_many { (n : ℕ) → result ≡ Err GiveRefusal.TooMany →
         Overflows n (to_tile haul.now.from (send_code haul.now.net word)) programs.old }
 {
@@ -57,9 +55,7 @@ pub fn give_tree(
     requires size { IsSize cols rows }
     requires from { haul.now.from < cols * rows }
     requires to { All (λ to. to < cols * rows) haul.now.to }
-    requires programs { length programs.now ≡ cols * rows }
     ensures gives { OnOk result (Gives (cols * rows) (to_switches (cols * rows) (tree_ins cols haul.now)) programs.old programs.new) }
-    ensures as_many { OnOk result (length programs.new ≡ length programs.old) }
     ensures too_many { result ≡ Err GiveRefusal.TooMany →
         Overflows (cols * rows) (to_switches (cols * rows) (tree_ins cols haul.now)) programs.old }
 {
@@ -74,10 +70,8 @@ pub fn give_tree(
 
 // A target stores the word, behind `count` earlier ones.
 fn give_store(programs: &mut Programs, net: Net, tile: u32, count: u32) -> Result<(), GiveRefusal>
-    requires tile { tile < length programs.now }
-    requires few { count < MAX_SWITCH_CODE }
+    requires { count < MAX_SWITCH_CODE }
     ensures gives { (n : ℕ) → OnOk result (Gives n (ToTile tile (store_ins (register_of net) count) ∷ []) programs.old programs.new) }
-    ensures as_many { OnOk result (length programs.new ≡ length programs.old) }
     ensures too_many { (n : ℕ) → result ≡ Err GiveRefusal.TooMany →
         Overflows n (ToTile tile (store_ins (register_of net) count) ∷ []) programs.old }
 {
@@ -93,13 +87,11 @@ fn give_stores(
     counts: &mut Vec<u32>,
     haul: &Haul,
 ) -> Result<(), GiveRefusal>
-    requires to { All (λ to. to < length programs.now) haul.now.to }
+    requires to { All (λ to. to < length counts.now.items) haul.now.to }
     requires distinct { AllPairs (λ a b. a ≢ b) haul.now.to }
-    requires counts { length counts.now.items ≡ length programs.now }
     ensures stored { (n : ℕ) (earlier : List Sending) (word : ℕ) → AreCounts n counts.old.items earlier →
         OnOk result (Gives n (map (store_part earlier haul.now.net) haul.now.to) programs.old programs.new
         × AreCounts n counts.new.items (earlier ++ (record { haul = haul.now; word = word }) ∷ [])) }
-    ensures as_many { OnOk result (length programs.new ≡ length programs.old) }
     ensures too_many { (n : ℕ) (earlier : List Sending) → AreCounts n counts.old.items earlier →
         result ≡ Err GiveRefusal.TooMany →
         Overflows n (map (store_part earlier haul.now.net) haul.now.to) programs.old ⊎ HasManyWords n earlier }
@@ -128,7 +120,6 @@ pub(crate) fn give_haul(
 ) -> Result<(), GiveRefusal>
     requires size { IsSize cols rows }
     requires haul { IsHaul (cols * rows) haul.now }
-    requires programs { length programs.now ≡ cols * rows }
     requires counts { length counts.now.items ≡ cols * rows }
     ensures given { (earlier : List Sending) → AreCounts (cols * rows) counts.old.items earlier →
         OnOk result (Gives (cols * rows) (haul_parts cols rows earlier (record { haul = haul.now; word = word })) programs.old programs.new

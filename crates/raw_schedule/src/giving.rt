@@ -1,5 +1,5 @@
 //! Programs of a part of a grid, given to all its tiles.
-ghost use Rattle.std.specs.Prelude.{◌≡◌, ℕ, ◌+◌, ◌<◌, length, OnOk, IfOk};
+ghost use Rattle.std.specs.Prelude.{◌+◌, ◌<◌, OnOk, IfOk};
 ghost use Rattle.raw_grid.specs.Topology.{Topology, tile_count};
 ghost use Rattle.raw_schedule.specs.Given.{AreGiven, AreWhole};
 ghost use Rattle.raw_model.specs.Wired.{AreWired};
@@ -37,9 +37,7 @@ impl From<GiveRefusal> for Unfit {
 
 // Gives a tile an instruction.
 fn give_ins(programs: &mut Programs, tile: u32, ins: TileIns) -> Result<(), Unfit>
-    requires { tile < length programs.now }
-    ensures given { (topo : Topology) → AreGiven topo programs.old → OnOk result (AreGiven topo programs.new) }
-    ensures as_many { OnOk result (length programs.new ≡ length programs.old) }
+    ensures { (topo : Topology) → AreGiven topo programs.old → OnOk result (AreGiven topo programs.new) }
 {
     law_lawful_parts();
     let _op = ins.op;
@@ -49,9 +47,7 @@ fn give_ins(programs: &mut Programs, tile: u32, ins: TileIns) -> Result<(), Unfi
 
 // Gives a tile all its instructions.
 fn give_code(programs: &mut Programs, tile: u32, code: &[TileIns]) -> Result<(), Unfit>
-    requires { tile < length programs.now }
-    ensures given { (topo : Topology) → AreGiven topo programs.old → OnOk result (AreGiven topo programs.new) }
-    ensures as_many { OnOk result (length programs.new ≡ length programs.old) }
+    ensures { (topo : Topology) → AreGiven topo programs.old → OnOk result (AreGiven topo programs.new) }
 {
     for ins in code {
         give_ins(programs, tile, *ins)?;
@@ -66,10 +62,8 @@ fn give_switch_ins(
     wired: Ends,
     ins: SwitchIns,
 ) -> Result<(), Unfit>
-    requires { tile < length programs.now }
-    ensures given { (topo : Topology) → AreWired topo (tile_count topo + tile) wired → AreGiven topo programs.old →
+    ensures { (topo : Topology) → AreWired topo (tile_count topo + tile) wired → AreGiven topo programs.old →
         OnOk result (AreGiven topo programs.new) }
-    ensures as_many { OnOk result (length programs.new ≡ length programs.old) }
 {
     law_lawful_parts();
     let _op = ins.op;
@@ -87,10 +81,8 @@ fn give_switch_code(
     wired: Ends,
     code: &[SwitchIns],
 ) -> Result<(), Unfit>
-    requires { tile < length programs.now }
-    ensures given { (topo : Topology) → AreWired topo (tile_count topo + tile) wired → AreGiven topo programs.old →
+    ensures { (topo : Topology) → AreWired topo (tile_count topo + tile) wired → AreGiven topo programs.old →
         OnOk result (AreGiven topo programs.new) }
-    ensures as_many { OnOk result (length programs.new ≡ length programs.old) }
 {
     for ins in code {
         give_switch_ins(programs, tile, wired, *ins)?;
@@ -105,10 +97,8 @@ fn give_program(
     tile: u32,
     program: &TileProg,
 ) -> Result<(), Unfit>
-    requires tile { tile < tile_count topo.now }
-    requires there { tile < length programs.now }
-    ensures given { AreGiven topo.now programs.old → OnOk result (AreGiven topo.now programs.new) }
-    ensures as_many { OnOk result (length programs.new ≡ length programs.old) }
+    requires { tile < tile_count topo.now }
+    ensures { AreGiven topo.now programs.old → OnOk result (AreGiven topo.now programs.new) }
 {
     let wired = wired_ends(topo, tile);
     give_code(programs, tile, &program.code)?;
@@ -142,9 +132,7 @@ fn give_all(
     part: Part,
     given: &[TileProg],
 ) -> Result<(), Unfit>
-    requires { length programs.now ≡ tile_count topo.now }
-    ensures given { AreGiven topo.now programs.old → OnOk result (AreGiven topo.now programs.new) }
-    ensures as_many { OnOk result (length programs.new ≡ length programs.old) }
+    ensures { AreGiven topo.now programs.old → OnOk result (AreGiven topo.now programs.new) }
 {
     for tile in 0..topo.tiles() {
         if let Some(program) = program_at(given, part, topo.cols(), tile) {

@@ -13,7 +13,7 @@ use Rattle.raw_flow.proofs.compiling.compile.Goals as goal
 
 pub compile_at-requires-clause-ports : goal.compile_at-requires-clause-ports
 compile_at-requires-clause-ports c =
-    subst (λ (p : FlowPorts). ArePorts c.args.flow.now p) (sym c.in_ok-ports.ensures) (usual_are c.args.flow.now c.keeps_rules.ensures)
+    subst (λ (p : FlowPorts). ArePorts c.args.flow.now p) (sym c.in_ok-ports.ensures) (usual_are c.args.flow.now c.keeps_rules.ensures.valid)
 
 pub returns-clause-set : goal.returns-clause-set
 unfolding compiled

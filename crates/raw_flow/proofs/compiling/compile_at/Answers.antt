@@ -12,14 +12,14 @@ port_programs-requires c =
     let flow = c.args.flow.now in
     let ports = c.args.ports.now in
     let inputs = c.args.inputs.now in
-    outs_fit flow ports inputs (is_valid c.law_compiled_at.ensures flow ports inputs c.keeps_rules.ensures c.requires.ports (record { each = c.requires.inputs; words = c.words_fit.ensures }) c.in-Ok.tiles.items c.in-Ok.ensures.tiles c.in-Ok.ensures.short)
+    outs_fit flow ports inputs (is_valid c.law_compiled_at.ensures flow ports inputs c.keeps_rules.ensures.valid c.requires.ports (record { each = c.requires.inputs; words = c.words_fit.ensures }) c.in-Ok.tiles.items c.in-Ok.ensures.tiles c.in-Ok.ensures.short)
 
 pub invariant_of-result : goal.invariant_of-result
 invariant_of-result c =
     let flow = c.args.flow.now in
     let ports = c.args.ports.now in
     let inputs = c.args.inputs.now in
-    let valid = is_valid c.law_compiled_at.ensures flow ports inputs c.keeps_rules.ensures c.requires.ports (record { each = c.requires.inputs; words = c.words_fit.ensures }) c.in-Ok.tiles.items c.in-Ok.ensures.tiles c.in-Ok.ensures.short in
+    let valid = is_valid c.law_compiled_at.ensures flow ports inputs c.keeps_rules.ensures.valid c.requires.ports (record { each = c.requires.inputs; words = c.words_fit.ensures }) c.in-Ok.tiles.items c.in-Ok.ensures.tiles c.in-Ok.ensures.short in
     let same = set_is flow ports inputs c.in_ok-topo.topo c.in_ok-ports.ports.items c.in-Ok.tiles.items c.new.result.items c.in_ok-topo.ensures c.in_ok-ports.ensures c.in-Ok.ensures.tiles c.new.ensures.items in
     subst (λ (set : ProgramSet). IsSet set) (sym same) valid
 
@@ -32,5 +32,5 @@ returns-clause-right c =
     let flow = c.args.flow.now in
     let ports = c.args.ports.now in
     let inputs = c.args.inputs.now in
-    let valid = is_valid c.law_compiled_at.ensures flow ports inputs c.keeps_rules.ensures c.requires.ports (record { each = c.requires.inputs; words = c.words_fit.ensures }) c.in-Ok.tiles.items c.in-Ok.ensures.tiles c.in-Ok.ensures.short in
-    c.law_flow_at.ensures flow ports inputs c.keeps_rules.ensures c.requires.ports (record { each = c.requires.inputs; words = c.words_fit.ensures }) valid
+    let valid = is_valid c.law_compiled_at.ensures flow ports inputs c.keeps_rules.ensures.valid c.requires.ports (record { each = c.requires.inputs; words = c.words_fit.ensures }) c.in-Ok.tiles.items c.in-Ok.ensures.tiles c.in-Ok.ensures.short in
+    c.law_flow_at.ensures flow ports inputs c.keeps_rules.ensures.valid c.requires.ports (record { each = c.requires.inputs; words = c.words_fit.ensures }) valid

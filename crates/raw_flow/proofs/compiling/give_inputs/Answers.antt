@@ -19,8 +19,7 @@ loop-v-init c =
     let ports = c.args.ports.now in
     record {
       taken = refl;
-      ready = c.requires.ready;
-      given = λ held are. at_first laws (tiles_in flow) (inputs_rest flow ports) (inputs_last flow ports) held c.args.programs.now c.args.places.now are;
+      given = λ held are. at_first laws flow (inputs_rest flow ports) (inputs_last flow ports) held c.args.programs.now c.args.places.now are;
     }
 
 pub give_input-requires-clause-inputs : goal.give_input-requires-clause-inputs
@@ -53,7 +52,7 @@ returns-in_err-taken-clause-too_many c = λ held are e.
     let there : slice_get flow.nodes v ≡ Some node =
     subst (λ (xs : List Node). slice_get xs v ≡ Some node) (ap (λ (f : Dataflow). f.nodes) c.flow.view_is) (slice_get-get_or items v node within ∙ ap (λ (x : Node). Some x) (sym c.index.ensures)) in
     let at = c.loop-v.invariant.given held are in
-    too_long laws (tiles_in flow) (inputs_rest flow ports) (inputs_last flow ports) held c.args.programs.now c.loop-v.programs c.loop-v.places v at (input_chunk flow ports at.held v node there)
+    too_long laws flow (inputs_rest flow ports) (inputs_last flow ports) held c.args.programs.now c.loop-v.programs c.loop-v.places v at (input_chunk flow ports at.held v node there)
     (subst (λ n. Overflows (tiles_in flow) (input_parts flow ports n v node) c.loop-v.programs) c.loop-v.invariant.taken (c.in_err-taken.ensures.too_many (ap (λ r. Err r) (sym k.1))))
 
 pub loop-v-preserved : goal.loop-v-preserved
@@ -74,12 +73,11 @@ loop-v-preserved c =
     ∙ sym (inputs_next flow.nodes v node inside) in
     record {
       taken = c.in_ok-taken.ensures.count ∙ next;
-      ready = c.in_ok-taken.ensures.ready;
       given = λ held are.
           let at = c.loop-v.invariant.given held are in
-          at_next laws (tiles_in flow) (inputs_rest flow ports) (inputs_last flow ports) held c.args.programs.now c.loop-v.programs c.loop-v.places v at
+          at_next laws flow (inputs_rest flow ports) (inputs_last flow ports) held c.args.programs.now c.loop-v.programs c.loop-v.places v at
           (input_chunk flow ports at.held v node there) c.give_input.new.programs c.give_input.new.places
-          (subst (λ n. AreGiven (tiles_in flow) (input_parts flow ports n v node) (held_input flow ports at.held n v node) c.loop-v.programs c.give_input.new.programs c.give_input.new.places) c.loop-v.invariant.taken
+          (subst (λ n. AreGiven flow (input_parts flow ports n v node) (held_input flow ports at.held n v node) c.loop-v.programs c.give_input.new.programs c.give_input.new.places) c.loop-v.invariant.taken
           (c.in_ok-taken.ensures.given at.held at.marked));
     }
 
@@ -93,5 +91,5 @@ returns-clause-given c = λ held are.
     let past : length flow.nodes ≤ v =
     let a = c.loop-v-test.false in let b = c.len-v-end.ensures in let d = c.flow.inside.nodes.ok.0 in let e = ap (λ (f : Dataflow). length f.nodes) c.flow.view_is in omega arith in
     let k = inputs_in (take v flow.nodes) in
-    at_last laws (tiles_in flow) (inputs_rest flow ports) (inputs_last flow ports) held c.args.programs.now c.loop-v.programs c.loop-v.places v at
+    at_last laws flow (inputs_rest flow ports) (inputs_last flow ports) held c.args.programs.now c.loop-v.programs c.loop-v.places v at
     (ap (inputs_from flow ports k v) (drop_past flow.nodes v past)) (ap (held_inputs flow ports at.held k v) (drop_past flow.nodes v past))

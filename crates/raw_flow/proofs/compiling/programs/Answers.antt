@@ -1,9 +1,6 @@
-use Rattle.std.proofs.Common.{◌≡◌, ◌*◌, ◌<◌, ◌≤◌, [], length, arith, Err, ap, ◌∙◌, sym, subst}
-use Rattle.std.proofs.lemmas.List.FromFn.{length-map-range_with_len}
-use Rattle.raw_flow.specs.declared.limits.TheConstants.{MAX_NODES}
-use Rattle.raw_codegen.specs.Parts.{program_of, programs_of}
+use Rattle.std.proofs.Common.{◌≡◌, [], Err, ap, ◌∙◌, sym}
+use Rattle.raw_codegen.specs.Parts.{programs_of}
 use Rattle.raw_codegen.specs.Limits.{Overflows}
-use Rattle.raw_flow.specs.Flows.{Dataflow}
 use Rattle.raw_flow.specs.Given.{AreGiven}
 use Rattle.raw_flow.specs.Compiled.{tiles_in, inputs_from, nodes_from, first_held, all_held, flow_parts}
 use Rattle.raw_flow.proofs.Sets.{all_given, inputs_long, nodes_long, outs_long}
@@ -20,11 +17,11 @@ first c = c.in_ok-programs.ensures ∙ ap (λ k. programs_of k []) c.tiles_in.en
 
 -- what inputs and all other nodes give
 inputs_given : (c : After-give_nodes)
-    → AreGiven (tiles_in c.args.flow.now) (inputs_from c.args.flow.now c.args.ports.now 0 0 c.args.flow.now.nodes) (first_held c.args.flow.now c.args.ports.now) c.in_ok-programs.programs c.give_inputs.new.programs c.give_inputs.new.places
-inputs_given c = c.in_ok-give_inputs.ensures.given [] c.in_ok-places.ensures.none
+    → AreGiven c.args.flow.now (inputs_from c.args.flow.now c.args.ports.now 0 0 c.args.flow.now.nodes) (first_held c.args.flow.now c.args.ports.now) c.in_ok-programs.programs c.give_inputs.new.programs c.give_inputs.new.places
+inputs_given c = c.in_ok-give_inputs.ensures.given [] c.in_ok-places.ensures
 
 nodes_given : (c : After-give_outs)
-    → AreGiven (tiles_in c.args.flow.now) (nodes_from c.args.flow.now c.args.ports.now (first_held c.args.flow.now c.args.ports.now) 0 c.args.flow.now.nodes) (all_held c.args.flow.now c.args.ports.now) c.give_inputs.new.programs c.give_nodes.new.programs c.give_nodes.new.places
+    → AreGiven c.args.flow.now (nodes_from c.args.flow.now c.args.ports.now (first_held c.args.flow.now c.args.ports.now) 0 c.args.flow.now.nodes) (all_held c.args.flow.now c.args.ports.now) c.give_inputs.new.programs c.give_nodes.new.programs c.give_nodes.new.places
 nodes_given c = c.in_ok-give_nodes.ensures.given (first_held c.args.flow.now c.args.ports.now) (inputs_given (goal.at.After-give_outs c).After-give_nodes).marked
 
 made : (c : After-finish) → c.give_outs.new.programs ≡ programs_of (tiles_in c.args.flow.now) (flow_parts c.args.flow.now c.args.ports.now)
@@ -39,24 +36,8 @@ returns-in_err-give_inputs-clause-too_many c = λ e.
     let at = (goal.at.returns-in_err-give_inputs-clause-too_many c).After-give_inputs in
     let flow = c.args.flow.now in
     let ports = c.args.ports.now in
-    let full : Overflows (tiles_in flow) (inputs_from flow ports 0 0 flow.nodes) c.in_ok-programs.programs = c.in_err-give_inputs.ensures.too_many [] c.in_ok-places.ensures.none (ap (λ r. Err r) (sym k.1)) in
+    let full : Overflows (tiles_in flow) (inputs_from flow ports 0 0 flow.nodes) c.in_ok-programs.programs = c.in_err-give_inputs.ensures.too_many [] c.in_ok-places.ensures (ap (λ r. Err r) (sym k.1)) in
     c.law_giving.ensures.too_long (tiles_in flow) (flow_parts flow ports) (inputs_long (laws at) flow ports c.in_ok-programs.programs (first at) full)
-
-pub give_inputs-requires-clause-ready : goal.give_inputs-requires-clause-ready
-give_inputs-requires-clause-ready c =
-    let flow = c.args.flow.now in
-    let ports = c.args.ports.now in
-    let nodes : c.flow.inside.nodes.items ≡ flow.nodes = ap (λ (f : Dataflow). f.nodes) c.flow.view_is in
-    let rows : c.len.result ≡ length flow.nodes = c.len.ensures ∙ c.flow.inside.nodes.ok.0 ∙ ap length nodes in
-    let few : length c.flow.inside.nodes.items ≤ MAX_NODES = c.flow.invariant.few in
-    let same = ap length nodes in
-    record {
-      few_nodes = omega arith;
-      some_tile = subst (λ n. 0 < n) c.tiles_in.ensures.value c.tiles_in.ensures.some;
-      few_tiles = subst (λ n. n ≤ 64) c.tiles_in.ensures.value c.tiles_in.ensures.few;
-      each_tile = ap length c.in_ok-programs.ensures ∙ length-map-range_with_len (program_of []) 0 c.tiles_in.result ∙ c.tiles_in.ensures.value;
-      each_node = c.in_ok-places.ensures.size ∙ ap (λ n. n * 64) rows;
-    }
 
 pub returns-in_err-give_nodes-clause-too_many : goal.returns-in_err-give_nodes-clause-too_many
 returns-in_err-give_nodes-clause-too_many c = λ e.

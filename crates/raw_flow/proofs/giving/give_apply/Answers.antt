@@ -39,4 +39,4 @@ returns-clause-given c = λ held are.
     let y = c.in_ok-move_value-2.ensures.moved (with_value held c.args.a t) x.marked in
     apply_given laws c.args.flow.now c.args.ports.now held c.args.v c.args.op c.args.a c.args.b t c.home-t.ensures.value
     c.args.programs.now c.move_value.new.programs c.move_value-2.new.programs c.give_operation.new.programs c.move_value.new.places c.move_value-2.new.places c.put.new.self x y
-    (c.in_ok-give_operation.ensures.gives (tiles_in c.args.flow.now)) (c.put.ensures.put (with_value (with_value held c.args.a t) c.args.b t) y.marked)
+    (c.in_ok-give_operation.ensures.gives (tiles_in c.args.flow.now)) (c.put.ensures c.args.flow.now (with_value (with_value held c.args.a t) c.args.b t) y.marked)

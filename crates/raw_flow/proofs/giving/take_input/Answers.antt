@@ -17,7 +17,7 @@ returns-in_err-give_switch-clause-too_many c = λ e.
     let t = c.source_tile-t.result in
     let at : t ≡ source_tile flow ports c.args.k = c.source_tile-t.ensures.value in
     let sw_is : c.from_side.result ≡ from_side place.net place.side = c.from_side.ensures ∙ ap (λ (p : PortPlace). from_side p.net p.side) c.source_of-place.ensures in
-    switch_full laws flow [] place c.args.v t c.from_side.result (take_value place.net c.args.v) at sw_is refl (tiles_in flow) c.args.programs.now
+    switch_full laws flow [] place c.args.v t c.from_side.result (take_value place.net c.args.v) at sw_is refl c.args.programs.now
     (c.in_err-give_switch.ensures.too_many (tiles_in flow) (ap (λ r. Err r) (sym k.1)))
 
 pub returns-in_err-give_tile-clause-too_many : goal.returns-in_err-give_tile-clause-too_many
@@ -32,7 +32,7 @@ returns-in_err-give_tile-clause-too_many c = λ e.
     let sw_is : c.from_side.result ≡ from_side place.net place.side = c.from_side.ensures ∙ ap (λ (p : PortPlace). from_side p.net p.side) c.source_of-place.ensures in
     let st_is : c.store_ins.result ≡ take_value place.net c.args.v =
     c.store_ins.ensures ∙ ap (λ r. store_ins r c.args.v) c.register_of.ensures ∙ ap (λ (p : PortPlace). store_ins (register_of p.net) c.args.v) c.source_of-place.ensures in
-    store_full laws flow [] place c.args.v t c.from_side.result c.store_ins.result at sw_is st_is (tiles_in flow) c.args.programs.now c.give_switch.new.self
+    store_full laws flow [] place c.args.v t c.from_side.result c.store_ins.result at sw_is st_is c.args.programs.now c.give_switch.new.self
     (c.in_ok-give_switch.ensures.gives (tiles_in flow)) (c.in_err-give_tile.ensures.too_many (tiles_in flow) (ap (λ r. Err r) (sym k.1)))
 
 pub returns-clause-given : goal.returns-clause-given
@@ -46,5 +46,5 @@ returns-clause-given c = λ held are.
     let sw_is : c.from_side.result ≡ from_side place.net place.side = c.from_side.ensures ∙ ap (λ (p : PortPlace). from_side p.net p.side) c.source_of-place.ensures in
     let st_is : c.store_ins.result ≡ take_value place.net c.args.v =
     c.store_ins.ensures ∙ ap (λ r. store_ins r c.args.v) c.register_of.ensures ∙ ap (λ (p : PortPlace). store_ins (register_of p.net) c.args.v) c.source_of-place.ensures in
-    taken_given laws flow held place c.args.v t c.from_side.result c.store_ins.result at sw_is st_is (tiles_in flow) c.args.programs.now c.give_switch.new.self c.give_tile.new.self c.put.new.self
-    (c.in_ok-give_switch.ensures.gives (tiles_in flow)) (c.in_ok-give_tile.ensures.gives (tiles_in flow)) (c.put.ensures.put held are)
+    taken_given laws flow held place c.args.v t c.from_side.result c.store_ins.result at sw_is st_is c.args.programs.now c.give_switch.new.self c.give_tile.new.self c.put.new.self
+    (c.in_ok-give_switch.ensures.gives (tiles_in flow)) (c.in_ok-give_tile.ensures.gives (tiles_in flow)) (c.put.ensures flow held are)

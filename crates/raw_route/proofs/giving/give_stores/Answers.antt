@@ -13,8 +13,7 @@ use Rattle.raw_route.proofs.giving.give_stores.Goals as goal
 
 pub loop-i-init : goal.loop-i-init
 loop-i-init c = record {
-  as_many = refl;
-  counts_many = c.requires.counts;
+  counts_many = refl;
   gives = λ n earlier are. c.law_giving.ensures.none n c.args.programs.now;
   counted = λ n earlier word are. no_targets n c.args.counts.now.items earlier c.args.haul.now word are;
 }
@@ -29,7 +28,7 @@ returns-then-count-ge-MAX_SWITCH_CODE-clause-too_many c = λ n earlier are e.
     let inside : c.loop-i.i < length haul.to = subst (λ (xs : List ℕ). c.loop-i.i < length xs) to_is long in
     let is : tile ≡ get_or haul.to c.loop-i.i tile = subst (λ (xs : List ℕ). tile ≡ get_or xs c.loop-i.i tile) to_is c.index-tile.ensures in
     let within : tile < n =
-    subst (λ m. tile < m) (sym c.requires.counts ∙ tiles_are n c.args.counts.now.items earlier are) (subst (λ k. k < length c.args.programs.now) (sym is) (c.requires.to c.loop-i.i tile inside)) in
+    subst (λ m. tile < m) (tiles_are n c.args.counts.now.items earlier are) (subst (λ k. k < length c.args.counts.now.items) (sym is) (c.requires.to c.loop-i.i tile inside)) in
     let same = count_is n c.loop-i.counts.items earlier haul 0 c.loop-i.i tile c.requires.distinct inside is within (c.loop-i.invariant.counted n earlier 0 are) count c.index-count.ensures in
     inr (tile, within, subst (λ k. MAX_SWITCH_CODE ≤ k) same c.if-count-ge-MAX_SWITCH_CODE.true)
 
@@ -45,7 +44,7 @@ returns-in_err-give_store-clause-too_many c = λ n earlier are e.
     let inside : c.loop-i.i < length haul.to = subst (λ (xs : List ℕ). c.loop-i.i < length xs) to_is long in
     let is : tile ≡ get_or haul.to c.loop-i.i tile = subst (λ (xs : List ℕ). tile ≡ get_or xs c.loop-i.i tile) to_is c.index-tile.ensures in
     let within : tile < n =
-    subst (λ m. tile < m) (sym c.requires.counts ∙ tiles_are n c.args.counts.now.items earlier are) (subst (λ k. k < length c.args.programs.now) (sym is) (c.requires.to c.loop-i.i tile inside)) in
+    subst (λ m. tile < m) (tiles_are n c.args.counts.now.items earlier are) (subst (λ k. k < length c.args.counts.now.items) (sym is) (c.requires.to c.loop-i.i tile inside)) in
     let full : Overflows n (ToTile tile (store_ins (register_of haul.net) count) ∷ []) c.loop-i.programs =
     subst (λ (net : Net). Overflows n (ToTile tile (store_ins (register_of net) count) ∷ []) c.loop-i.programs) (ap (λ (h : Haulage). h.net) c.haul.view_is)
     (c.in_err-give_store.ensures.too_many n (ap (λ r. Err r) (sym k.1))) in
@@ -63,9 +62,8 @@ loop-i-preserved c =
     let inside : c.loop-i.i < length haul.to = subst (λ (xs : List ℕ). c.loop-i.i < length xs) to_is long in
     let is : tile ≡ get_or haul.to c.loop-i.i tile = subst (λ (xs : List ℕ). tile ≡ get_or xs c.loop-i.i tile) to_is c.index-tile.ensures in
     let within : (n : ℕ) (earlier : List Sending) → AreCounts n c.args.counts.now.items earlier → tile < n =
-    λ n earlier are. subst (λ m. tile < m) (sym c.requires.counts ∙ tiles_are n c.args.counts.now.items earlier are) (subst (λ k. k < length c.args.programs.now) (sym is) (c.requires.to c.loop-i.i tile inside)) in
+    λ n earlier are. subst (λ m. tile < m) (tiles_are n c.args.counts.now.items earlier are) (subst (λ k. k < length c.args.counts.now.items) (sym is) (c.requires.to c.loop-i.i tile inside)) in
     record {
-      as_many = c.in_ok-give_store.ensures.as_many ∙ c.loop-i.invariant.as_many;
       counts_many = length-set c.loop-i.counts.items tile (count + 1) ∙ c.loop-i.invariant.counts_many;
       gives = λ n earlier are.
           stores_more n c.loop-i.counts.items earlier haul 0 c.loop-i.i tile c.requires.distinct inside is (within n earlier are) (c.loop-i.invariant.counted n earlier 0 are) laws

@@ -8,8 +8,7 @@ use Rattle.raw_route.proofs.giving.give_stores.Given as goal
 -- the targets so far have stored the word, and have one word more
 abbrev pub invariant-loop-i : goal.invariant-loop-i
 invariant-loop-i l = record {
-  as_many : length l.programs ≡ length l.initial.programs;
-  counts_many : length l.counts.items ≡ length l.initial.programs;
+  counts_many : length l.counts.items ≡ length l.initial.counts.items;
   gives : (n : ℕ) (earlier : List Sending) → AreCounts n l.initial.counts.items earlier → Gives n (map (store_part earlier l.haul.net) (take l.i l.haul.to)) l.initial.programs l.programs;
   counted : (n : ℕ) (earlier : List Sending) (word : ℕ) → AreCounts n l.initial.counts.items earlier → AreCounts n l.counts.items (earlier ++ first_targets l.haul word l.i ∷ []);
 }

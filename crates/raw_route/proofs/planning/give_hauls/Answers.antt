@@ -1,21 +1,17 @@
 use Rattle.std.proofs.Common.{◌≡◌, ◌+◌, ◌*◌, List, [], ◌∷◌, ◌++◌, get_or, take, Err, sym, ap, subst, ◌∙◌}
 use Rattle.raw_route.specs.Hauls.{Haulage, IsHaul}
-use Rattle.raw_route.specs.Planned.{Sending, sendings, parts_from}
+use Rattle.raw_route.specs.Planned.{Sending, sendings}
 use Rattle.raw_route.specs.Counts.{AreCounts}
 use Rattle.raw_route.proofs.Faultless.{all_sendings}
 use Rattle.raw_route.proofs.Given.{PartsGive}
 use Rattle.raw_route.proofs.HaulParts.{tiles_are}
-use Rattle.raw_route.proofs.Plans.{haul_at, sendings_more, sendings_taken, programs_more, as_many, too_many, all_given}
+use Rattle.raw_route.proofs.Plans.{haul_at, sendings_more, sendings_taken, programs_more, too_many, all_given}
 use Rattle.raw_route.proofs.planning.give_hauls.Goals as goal
 
 pub give_haul-requires-clause-haul : goal.give_haul-requires-clause-haul
 give_haul-requires-clause-haul c =
     subst (IsHaul (c.args.cols * c.args.rows)) (sym c.index-hauls-i.is)
     (haul_at (c.args.cols * c.args.rows) 0 c.args.hauls.now c.loop-i.i c.index-hauls-i.result c.requires.lawful.faultless c.loop-i-test.true)
-
-pub give_haul-requires-clause-programs : goal.give_haul-requires-clause-programs
-give_haul-requires-clause-programs c =
-    as_many (c.args.cols * c.args.rows) (parts_from c.args.cols c.args.rows [] (take c.loop-i.i (sendings c.args.hauls.now c.args.words.now))) c.loop-i.programs c.loop-i.invariant.programs
 
 pub give_haul-requires-clause-counts : goal.give_haul-requires-clause-counts
 give_haul-requires-clause-counts c =

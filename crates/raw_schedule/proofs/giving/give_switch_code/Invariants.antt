@@ -1,4 +1,4 @@
-use Rattle.std.proofs.Common.{◌≡◌, ◌+◌, length}
+use Rattle.std.proofs.Common.{◌+◌}
 use Rattle.raw_grid.specs.Topology.{Topology, tile_count}
 use Rattle.raw_schedule.specs.Given.{AreGiven}
 use Rattle.raw_model.specs.Wired.{AreWired}
@@ -6,7 +6,4 @@ use Rattle.raw_schedule.proofs.giving.give_switch_code.Given as goal
 
 -- the instructions so far have been given
 abbrev pub invariant-loop-ins : goal.invariant-loop-ins
-invariant-loop-ins l = record {
-  as_many : length l.programs ≡ length l.initial.programs;
-  given : (topo : Topology) → AreWired topo (tile_count topo + l.tile) l.wired → AreGiven topo l.initial.programs → AreGiven topo l.programs;
-}
+invariant-loop-ins l = (topo : Topology) → AreWired topo (tile_count topo + l.tile) l.wired → AreGiven topo l.initial.programs → AreGiven topo l.programs
