@@ -190,52 +190,28 @@ fn port_unit(alloc: Global, program: &PortProg) -> Result<PortState, AllocError>
     })
 }
 
-fn open_tile(alloc: Global, set: &Set, p: ProcId) -> Result<Processor, AllocError>
-    requires valid { IsSet set.now }
-    requires tile { kind_at set.now.topo p.0 ≡ Some proc.Tile }
-    ensures { IfOk result (IsFirst set.now p.0) }
-{
-    let tile = tile_unit(alloc, program_of(set, p.0 as usize))?;
-    Ok(Processor::Tile(tile))
-}
-
-fn open_switch(alloc: Global, set: &Set, p: ProcId) -> Result<Processor, AllocError>
-    requires valid { IsSet set.now }
-    requires switch { kind_at set.now.topo p.0 ≡ Some proc.Switch }
-    ensures { IfOk result (IsFirst set.now p.0) }
-{
-    let switch = switch_unit(alloc, program_of(set, tile_beside(set, p)))?;
-    Ok(Processor::Switch(switch))
-}
-
-fn open_source(alloc: Global, set: &Set, p: ProcId) -> Result<Processor, AllocError>
-    requires valid { IsSet set.now }
-    requires source { kind_at set.now.topo p.0 ≡ Some proc.Source }
-    ensures { IfOk result (IsFirst set.now p.0) }
-{
-    let port = port_unit(alloc, port_program(set, p))?;
-    Ok(Processor::Source(port))
-}
-
-fn open_sink(alloc: Global, set: &Set, p: ProcId) -> Result<Processor, AllocError>
-    requires valid { IsSet set.now }
-    requires sink { kind_at set.now.topo p.0 ≡ Some proc.Sink }
-    ensures { IfOk result (IsFirst set.now p.0) }
-{
-    let port = port_unit(alloc, port_program(set, p))?;
-    Ok(Processor::Sink(port))
-}
-
 // A processor before it has done anything.
 fn open_processor(alloc: Global, set: &Set, p: ProcId) -> Result<Processor, AllocError>
     requires { p.0 < proc_count set.now.topo }
     ensures { IfOk result (IsFirst set.now p.0) }
 {
     match set.topo.kind_of(p) {
-        ProcKind::Tile => open_tile(alloc, set, p),
-        ProcKind::Switch => open_switch(alloc, set, p),
-        ProcKind::Source => open_source(alloc, set, p),
-        ProcKind::Sink => open_sink(alloc, set, p),
+        ProcKind::Tile => {
+            let tile = tile_unit(alloc, program_of(set, p.0 as usize))?;
+            Ok(Processor::Tile(tile))
+        }
+        ProcKind::Switch => {
+            let switch = switch_unit(alloc, program_of(set, tile_beside(set, p)))?;
+            Ok(Processor::Switch(switch))
+        }
+        ProcKind::Source => {
+            let port = port_unit(alloc, port_program(set, p))?;
+            Ok(Processor::Source(port))
+        }
+        ProcKind::Sink => {
+            let port = port_unit(alloc, port_program(set, p))?;
+            Ok(Processor::Sink(port))
+        }
     }
 }
 

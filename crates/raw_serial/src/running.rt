@@ -11,6 +11,7 @@ use crate::machine::Machine;
 use crate::turn::Turn;
 use crate::turns::{Turns, take_turns};
 use raw_grid::{ProcId, ProcKind};
+use raw_model::Set;
 use raw_processor::ProcSet;
 
 /// How a machine ran that might take so many steps and no more.
@@ -23,24 +24,6 @@ pub struct Ran {
 }
 
 impl Machine<'_> {
-    // Takes all stall turns that a processor of this kind owes, and then gives it its turn.
-    #[inline(always)]
-    fn step_past_stalls_as(&mut self, p: ProcId, kind: ProcKind) -> Turn
-        requires { IsOfKind self.old.set.topo p.0 kind }
-        ensures answer { result ≡ turn_of (past_stalls self.old p.0) p.0 }
-        ensures set { self.new.set ≡ self.old.set }
-        ensures fired { result ≡ Turn.Fired → IsStep (past_stalls self.old p.0) self.new p.0 }
-        ensures stays { result ≢ Turn.Fired → self.new ≡ past_stalls self.old p.0 }
-        ensures never_stalled { result ≢ Turn.Stalled }
-    {
-        'stalls: loop {
-            match self.try_step_as(p, kind) {
-                Turn::Stalled => {}
-                turn => return turn,
-            }
-        }
-    }
-
     /// Takes the next step of a processor, if it is enabled, and says whether it was. It passes over the stall turns that
     /// a tile owes (`past_stalls`); a tile that is stopped takes none.
     pub fn step(&mut self, p: ProcId) -> bool
@@ -53,27 +36,14 @@ impl Machine<'_> {
         ensures stays { result ≡ false → self.new.state ≡ self.old.state }
         ensures taken { HasTaken self.old self.new (if result then p.0 ∷ [] else []) }
     {
-        let kind = self.kind_of(p);
-        self.step_as(p, kind)
-    }
-
-    // The same of a processor of this kind.
-    #[inline(always)]
-    fn step_as(&mut self, p: ProcId, kind: ProcKind) -> bool
-        requires { IsOfKind self.old.set.topo p.0 kind }
-        ensures set { self.new.set ≡ self.old.set }
-        ensures enabled { result ≡ enabled self.old.set self.old.state p.0 }
-        ensures fired { result ≡ true → IsStep (past_stalls self.old p.0) self.new p.0 }
-        ensures step { result ≡ true → self.new.state ≡ step self.old.set self.old.state p.0 }
-        ensures passed { result ≡ false → self.new ≡ past_stalls self.old p.0 }
-        ensures stays { result ≡ false → self.new.state ≡ self.old.state }
-        ensures taken { HasTaken self.old self.new (if result then p.0 ∷ [] else []) }
-    {
-        // The machine is read so that its invariant is known: each processor has a local state.
-        let _set = self.set;
-        match self.step_past_stalls_as(p, kind) {
-            Turn::Fired => true,
-            _ => false,
+        let set: &Set = self.set;
+        let kind = set.topo.kind_of(p);
+        'stalls: loop {
+            match self.try_step_as(p, kind) {
+                Turn::Stalled => {}
+                Turn::Fired => return true,
+                _ => return false,
+            }
         }
     }
 

@@ -1,7 +1,10 @@
 -- The values that a firing is given, and what it answers.
-use Rattle.std.specs.Prelude.{◌≡◌, Bool, false, ◌&&◌, Option, Some, None, ℕ, List, ◌++◌, is_some}
+use Rattle.std.specs.Prelude.{◌≡◌, ◌<◌, Bool, false, ◌&&◌, Option, Some, None, ℕ, List, ◌++◌, is_some}
 use Rattle.std.specs.Option.{option_to_list}
 use Rattle.raw_tile_isa.specs.Instruction.{Instruction, is_network, uses, is_rs, reads_rt}
+use Rattle.raw_model.specs.declared.limits.TheConstants.{MAX_STEPS}
+use Rattle.raw_model.specs.declared.marks.Mark.TheVariants.{Going}
+use Rattle.raw_model.specs.Local.{TileLocal}
 use Rattle.raw_model.specs.TileTable.{TileEffect}
 use Rattle.raw_tile.specs.declared.fire.TileGiven.{TileGiven}
 use Rattle.raw_tile.specs.declared.fire.TileOut.{TileOut}
@@ -24,6 +27,11 @@ takes_second (Some ins) = reads_rt ins.op && is_network ins.rt
 pub record IsGivenFor (ins : Option Instruction) (given : TileGiven) : Type 0 where
   pub first : is_some given.a ≡ takes_first ins
   pub second : is_some given.b ≡ takes_second ins
+
+-- a tile that has not ended and may take one more step
+pub record MayStep (tile : TileLocal) : Type 0 where
+  pub going : tile.mark ≡ Going
+  pub count : tile.count < MAX_STEPS
 
 -- what a firing answers of its effect
 abbrev pub out_of : TileEffect → TileOut

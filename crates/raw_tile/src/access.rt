@@ -2,13 +2,12 @@
 ghost use Rattle.std.specs.Prelude.{◌≡◌, ◌<◌, ◌≤◌, length, slice_index};
 ghost use Rattle.raw_tile_isa.specs.Words.{sign_extended, sign_extended_byte};
 ghost use Rattle.raw_model.specs.TileTable.{address_of, access_fault, half_at, word_at, stores};
-ghost use Rattle.raw_tile.specs.Given.{out_of};
+ghost use Rattle.raw_tile.specs.Given.{MayStep, out_of};
 ghost use Rattle.raw_tile.specs.Access.{value_unless, gives_read};
 
 use crate::fire::TileOut;
 use crate::rows::address_of;
 use crate::state::TileState;
-use raw_model::limits::MAX_STEPS;
 use raw_model::{Cause, Mark};
 use raw_tile_isa::{TileIns, sign_extended, sign_extended_byte};
 
@@ -62,8 +61,7 @@ impl TileState {
         a: u32,
         read: Result<u32, Cause>,
     ) -> TileOut
-        requires going { self.old.mark ≡ Mark.Going }
-        requires count { self.old.count < MAX_STEPS }
+        requires may { MayStep self.old }
         ensures next { self.new ≡ (gives_read size self.old ins.now.rt (address_of ins.now a) read).next }
         ensures out { result ≡ out_of (gives_read size self.old ins.now.rt (address_of ins.now a) read) }
     {
@@ -78,8 +76,7 @@ impl TileState {
     pub(crate) fn store(&mut self, size: usize, ins: &TileIns, a: u32, bytes: &[u8]) -> TileOut
         requires some { 0 < length bytes.now }
         requires few { length bytes.now ≤ 4 }
-        requires going { self.old.mark ≡ Mark.Going }
-        requires count { self.old.count < MAX_STEPS }
+        requires may { MayStep self.old }
         ensures next { self.new ≡ (stores size self.old (address_of ins.now a) bytes.now).next }
         ensures out { result ≡ out_of (stores size self.old (address_of ins.now a) bytes.now) }
     {

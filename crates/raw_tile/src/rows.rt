@@ -1,8 +1,7 @@
 //! The rows of the table of tile instructions: what each does to the tile, sends and touches.
-ghost use Rattle.std.specs.Prelude.{◌≡◌, ◌<◌, length, false};
-ghost use Rattle.raw_tile_isa.specs.Instruction.{is_network};
-ghost use Rattle.raw_model.specs.TileTable.{row_effect, goes, gives, gives_at, branches, stops, following, moved, with_register, address_of, is_below_zero, is_above_zero};
-ghost use Rattle.raw_tile.specs.Given.{out_of};
+ghost use Rattle.std.specs.Prelude.{◌≡◌, ◌<◌};
+ghost use Rattle.raw_model.specs.TileTable.{row_effect, goes, gives, gives_at, branches, stops, following, moved, address_of, is_below_zero, is_above_zero};
+ghost use Rattle.raw_tile.specs.Given.{MayStep, out_of};
 
 use crate::fire::TileOut;
 use crate::state::TileState;
@@ -20,8 +19,7 @@ impl TileState {
     // it would be so large that the compiler drops the attribute.
     #[inline(always)]
     pub(crate) fn do_row(&mut self, size: usize, ins: &TileIns, a: u32, b: u32) -> TileOut
-        requires going { self.old.mark ≡ Mark.Going }
-        requires count { self.old.count < MAX_STEPS }
+        requires { MayStep self.old }
         ensures next { self.new ≡ (row_effect ins.now.op size self.old ins.now a b).next }
         ensures out { result ≡ out_of (row_effect ins.now.op size self.old ins.now a b) }
     {
@@ -97,8 +95,7 @@ impl TileState {
 
     // The tile goes on at a pc, and does nothing else.
     fn go(&mut self, size: usize, pc: u32) -> TileOut
-        requires going { self.old.mark ≡ Mark.Going }
-        requires count { self.old.count < MAX_STEPS }
+        requires { MayStep self.old }
         ensures next { self.new ≡ (goes size self.old pc).next }
         ensures out { result ≡ out_of (goes size self.old pc) }
     {
@@ -108,8 +105,7 @@ impl TileState {
 
     // A branch, which is taken where the test holds.
     fn branch(&mut self, size: usize, ins: &TileIns, test: bool) -> TileOut
-        requires going { self.old.mark ≡ Mark.Going }
-        requires count { self.old.count < MAX_STEPS }
+        requires { MayStep self.old }
         ensures next { self.new ≡ (branches size self.old ins.now test).next }
         ensures out { result ≡ out_of (branches size self.old ins.now test) }
     {
@@ -118,17 +114,6 @@ impl TileState {
             self.go(size, add(following, sign_extended(ins.imm)))
         } else {
             self.go(size, following)
-        }
-    }
-
-    // Writes a register that is no network's; 0 stores nothing.
-    fn set_register(&mut self, register: u8, value: u32)
-        requires few { register < 32 }
-        requires stored { is_network register ≡ false }
-        ensures { self.new ≡ record self.old { regs = with_register self.old.regs register value } }
-    {
-        if register != 0 {
-            self.regs[register as usize] = value;
         }
     }
 
@@ -161,7 +146,9 @@ impl TileState {
                 touched,
             },
             _ => {
-                self.set_register(register, value);
+                if register != 0 {
+                    self.regs[register as usize] = value;
+                }
                 TileOut {
                     sent1: None,
                     sent2: None,
@@ -174,8 +161,7 @@ impl TileState {
     // A value for a register.
     fn give(&mut self, size: usize, register: u8, value: u32) -> TileOut
         requires register { register < 32 }
-        requires going { self.old.mark ≡ Mark.Going }
-        requires count { self.old.count < MAX_STEPS }
+        requires may { MayStep self.old }
         ensures next { self.new ≡ (gives size self.old register value).next }
         ensures out { result ≡ out_of (gives size self.old register value) }
     {
