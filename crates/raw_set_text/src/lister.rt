@@ -1,9 +1,8 @@
 //! The listing of a set.
-ghost use Rattle.std.specs.Prelude.{◌≡◌, ◌<◌, ◌≤◌, ◌++◌, ◌∷◌, [], codes, length, map, IfOk, OnOk, string_bytes};
-ghost use Rattle.std.specs.List.{flat_map, enumerate_from, All};
+ghost use Rattle.std.specs.Prelude.{◌≡◌, ◌≤◌, ◌++◌, ◌∷◌, [], codes, length, map, IfOk, OnOk, string_bytes};
+ghost use Rattle.std.specs.List.{flat_map, enumerate_from};
 ghost use Rattle.std.specs.Fmt.{decimal};
 ghost use Rattle.raw_text.specs.Lines.{written_lines};
-ghost use Rattle.raw_grid.specs.Topology.{tile_count};
 ghost use Rattle.raw_tile_asm.specs.Listing.{listed_lines};
 ghost use Rattle.raw_switch_asm.specs.Listing.{line_text};
 ghost use Rattle.raw_set_text.specs.declared.word.Word.TheVariants as word;
@@ -38,10 +37,11 @@ fn push_edge(text: &mut String, place: PortPlace) -> Result<(), AllocError>
 
 // Appends the column and the row of a tile, behind a blank.
 fn push_position(text: &mut String, topo: &Topo, tile: u32) -> Result<(), AllocError>
-    requires { tile < tile_count topo.now }
     ensures { OnOk result (string_bytes text.new ≡ string_bytes text.old ++ spaced (position_texts topo.now.cols tile)) }
 {
-    let (x, y) = topo.position_of(tile);
+    let columns = u32::from(topo.cols());
+    let x = tile % columns;
+    let y = tile / columns;
     write!(text, " {x} {y}")
 }
 
@@ -144,7 +144,6 @@ fn push_feeds(text: &mut String, topo: &Topo, ports: &[PortProg]) -> Result<(), 
 
 // Appends the line of a word in a tile's memory.
 fn push_cell(text: &mut String, topo: &Topo, tile: u32, cell: DataWord) -> Result<(), AllocError>
-    requires { tile < tile_count topo.now }
     ensures { OnOk result (string_bytes text.new ≡ string_bytes text.old ++ (data_line topo.now.cols tile cell ++ 10 ∷ [])) }
 {
     text.push_str(Word::Data.name())?;
@@ -161,7 +160,6 @@ fn push_cells(
     tile: u32,
     cells: &[DataWord],
 ) -> Result<(), AllocError>
-    requires { tile < tile_count topo.now }
     ensures { OnOk result (string_bytes text.new ≡ string_bytes text.old ++ written_lines (map (data_line topo.now.cols tile) cells.now)) }
 {
     for cell in cells {
@@ -177,7 +175,6 @@ fn push_turns_line(
     tile: u32,
     numbers: &[u8],
 ) -> Result<(), AllocError>
-    requires { tile < tile_count topo.now }
     ensures { OnOk result (string_bytes text.new ≡ string_bytes text.old ++ (turns_line topo.now.cols tile numbers.now ++ 10 ∷ [])) }
 {
     text.push_str(Word::Misses.name())?;
@@ -188,7 +185,6 @@ fn push_turns_line(
 
 // Appends the lines of a tile's miss stream.
 fn push_misses(text: &mut String, topo: &Topo, tile: u32, misses: &[u8]) -> Result<(), AllocError>
-    requires { tile < tile_count topo.now }
     ensures { OnOk result (string_bytes text.new ≡ string_bytes text.old ++ written_lines (misses_lines topo.now.cols tile misses.now)) }
 {
     for piece in misses.chunks(MISSES_NUMBERS) {
@@ -204,7 +200,6 @@ fn push_memory(
     tile: u32,
     given: &TileProg,
 ) -> Result<(), AllocError>
-    requires { tile < tile_count topo.now }
     ensures { OnOk result (string_bytes text.new ≡ string_bytes text.old ++ written_lines (memory_lines topo.now.cols (tile, given.now))) }
 {
     push_cells(text, topo, tile, &given.cells)?;
@@ -214,8 +209,7 @@ fn push_memory(
 
 // Appends the lines of what the tiles are given beside programs.
 fn push_memories(text: &mut String, topo: &Topo, tiles: &[TileProg]) -> Result<(), AllocError>
-    requires each { length tiles.now ≡ tile_count topo.now }
-    requires few { length tiles.now ≤ MAX_TILES }
+    requires { length tiles.now ≤ MAX_TILES }
     ensures { OnOk result (string_bytes text.new ≡ string_bytes text.old ++ written_lines (flat_map (memory_lines topo.now.cols) (enumerate_from 0 tiles.now))) }
 {
     for (tile, given) in tiles.iter().enumerate() {
@@ -226,7 +220,6 @@ fn push_memories(text: &mut String, topo: &Topo, tiles: &[TileProg]) -> Result<(
 
 // Appends the line of words that the report shows.
 fn push_show(text: &mut String, topo: &Topo, show: Show) -> Result<(), AllocError>
-    requires { show.tile < tile_count topo.now }
     ensures { OnOk result (string_bytes text.new ≡ string_bytes text.old ++ (show_line topo.now.cols show ++ 10 ∷ [])) }
 {
     text.push_str(Word::Show.name())?;
@@ -238,7 +231,6 @@ fn push_show(text: &mut String, topo: &Topo, show: Show) -> Result<(), AllocErro
 
 // Appends the lines of what the report shows.
 fn push_shows(text: &mut String, topo: &Topo, shows: &[Show]) -> Result<(), AllocError>
-    requires { All (λ show. show.tile < tile_count topo.now) shows.now }
     ensures { OnOk result (string_bytes text.new ≡ string_bytes text.old ++ written_lines (map (show_line topo.now.cols) shows.now)) }
 {
     for show in shows {
@@ -297,7 +289,6 @@ pub fn list_feeds(alloc: Global, set: &Set) -> Result<String, AllocError>
 
 // The line that begins the section of a processor of this kind.
 fn head(alloc: Global, word: Word, topo: &Topo, tile: u32) -> Result<String, AllocError>
-    requires { tile < tile_count topo.now }
     ensures { IfOk result (λ text. string_bytes text ≡ line_of word (position_texts topo.now.cols tile) ++ 10 ∷ []) }
 {
     let mut text = String::new(alloc);
@@ -324,8 +315,7 @@ fn push_code(
     tile: u32,
     code: &[TileIns],
 ) -> Result<(), AllocError>
-    requires there { tile < tile_count topo.now }
-    requires few { length code.now ≤ MAX_TILE_CODE }
+    requires { length code.now ≤ MAX_TILE_CODE }
     ensures { OnOk result (text.new.items ≡ text.old.items ++ written_lines (section_lines word.Tile topo.now.cols tile (listed_lines 0 code.now))) }
 {
     if code.is_empty() {
@@ -345,8 +335,7 @@ fn push_switch_code(
     tile: u32,
     code: &[SwitchIns],
 ) -> Result<(), AllocError>
-    requires there { tile < tile_count topo.now }
-    requires few { length code.now ≤ MAX_SWITCH_CODE }
+    requires { length code.now ≤ MAX_SWITCH_CODE }
     ensures { OnOk result (text.new.items ≡ text.old.items ++ written_lines (section_lines word.Switch topo.now.cols tile (map line_text code.now))) }
 {
     if code.is_empty() {
@@ -366,7 +355,6 @@ fn push_programs(
     tile: u32,
     given: &TileProg,
 ) -> Result<(), AllocError>
-    requires there { tile < tile_count topo.now }
     requires few { length given.now.code ≤ MAX_TILE_CODE }
     requires few_switch { length given.now.switch ≤ MAX_SWITCH_CODE }
     ensures { OnOk result (text.new.items ≡ text.old.items ++ written_lines (program_lines topo.now.cols (tile, given.now))) }
