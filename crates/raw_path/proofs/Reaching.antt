@@ -2,7 +2,7 @@
 use Rattle.std.proofs.Common.{◌≡◌, ℕ, zero, suc, ◌+◌, ◌<◌, ◌≤◌, Bool, true, false, List, [], ◌∷◌, ◌++◌, length, Option, Some, None, refl, sym, ap, ◌∙◌, subst, ⊎_elim, arith}
 use Rattle.std.specs.Prelude.{slice_index_or}
 use Rattle.std.proofs.lemmas.Bool.{cases_eq}
-use Rattle.std.proofs.lemmas.Option.{same_Some, slice_get-get_or}
+use Rattle.std.proofs.lemmas.Option.{same_Some, slice_get-get_or, none-some}
 use Rattle.raw_grid.specs.Topology.{Topology, proc_count}
 use Rattle.raw_grid.specs.Wires.{wires_of, producer_of, consumer_of}
 use Rattle.raw_model.specs.Program.{ProgramSet, IsSet}
@@ -19,9 +19,6 @@ use Rattle.raw_path.specs.Path.{wire_of, wire_in, goes_in, before, one_stall, st
 use Rattle.raw_path.specs.Known.{WaitsForNone, Begins, IsEnd, IsReached, IsKnown, AreKnown}
 use Rattle.raw_path.proofs.Waited.{goes_before}
 use Rattle.raw_path.proofs.Kept.{last_push}
-
-no_wire : (w : ℕ) → None ≡ Some w → ⊥
-no_wire w e = cc e
 
 -- one cycle more without a wait
 more_none : (set : ProgramSet) (from k p : ℕ) → WaitsForNone set from k p → wire_in set k p ≡ None → WaitsForNone set from (suc k) p
@@ -58,9 +55,9 @@ few_stalls set (suc k) p = omega (arith, few_stalls set k (before set k p), one_
 
 wire_within : (topo : Topology) (turn : Turn) (w : ℕ) → WaitsThere topo turn → wire_of turn ≡ Some w → w < length (wires_of topo)
 wire_within topo (Waits wire) w there is = subst (λ v. v < length (wires_of topo)) (same_Some wire.0 w is) there
-wire_within topo Fired w there is = absurd (no_wire w is)
-wire_within topo Stalled w there is = absurd (no_wire w is)
-wire_within topo Stopped w there is = absurd (no_wire w is)
+wire_within topo Fired w there is = absurd (none-some w is)
+wire_within topo Stalled w there is = absurd (none-some w is)
+wire_within topo Stopped w there is = absurd (none-some w is)
 
 -- what a list tells of a processor
 abbrev pub unseen : Seen
@@ -135,7 +132,7 @@ module _ (set : ProgramSet) (valid : IsSet set) (hops : List Hop) where
 
   pub has_waited : (n p w : ℕ) (own : Seen) → IsKnown set hops n p own → p < proc_count set.topo → wire_of own.turn ≡ Some w → goes_in set n p ≡ true
       → HasWaited n p w
-  has_waited zero p w own is below waits on = absurd (no_wire w (ap wire_of (sym is.0) ∙ waits))
+  has_waited zero p w own is below waits on = absurd (none-some w (ap wire_of (sym is.0) ∙ waits))
   has_waited (suc k) p w own is below waits on =
       let waited : wire_in set k p ≡ Some w = ap wire_of (sym is.0) ∙ waits in
       let same : before set k p ≡ far p w = ap (λ o. far_or (producer_of set.topo) (consumer_of set.topo) p o) waited in

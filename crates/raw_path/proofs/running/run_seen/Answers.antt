@@ -19,25 +19,11 @@ cycles-init c =
       subst (λ xs. AreKnown g xs 0 c.args.seen.now) (sym c.requires.hops) c.requires.seen,
       subst (AreHops g) (sym c.requires.hops) (λ i h here. absurd (cc here)),
       c.requires.next,
+      omega arith,
     )
 
-pub step_cycle-requires-clause-few : goal.step_cycle-requires-clause-few
-step_cycle-requires-clause-few c =
-    let g = c.args.machine.now.set in
-    let procs : proc_count g.topo ≤ 256 = omega (arith, c.procs-procs.ensures.few, c.procs-procs.ensures.value) in
-    omega (arith, few_cycles g c.set-set.ensures.valid procs c.cycles.cycles c.cycles.invariant.1)
-
 pub step_cycle-requires-clause-room : goal.step_cycle-requires-clause-room
-step_cycle-requires-clause-room c =
-    let g = c.args.machine.now.set in
-    let procs : proc_count g.topo ≤ 256 = omega (arith, c.procs-procs.ensures.few, c.procs-procs.ensures.value) in
-    λ w. let few = c.cycles.invariant.0.few w in omega (arith, few_cycles g c.set-set.ensures.valid procs c.cycles.cycles c.cycles.invariant.1, few)
-
-pub look-requires-clause-few : goal.look-requires-clause-few
-look-requires-clause-few c =
-    let g = c.args.machine.now.set in
-    let procs : proc_count g.topo ≤ 256 = omega (arith, c.procs-procs.ensures.few, c.procs-procs.ensures.value) in
-    omega (arith, few_cycles g c.set-set.ensures.valid procs c.cycles.cycles c.cycles.invariant.1)
+step_cycle-requires-clause-room c = λ w. let few = c.cycles.invariant.0.few w in omega (arith, few, c.cycles.invariant.5)
 
 pub look-requires-clause-state : goal.look-requires-clause-state
 look-requires-clause-state c =
@@ -69,18 +55,6 @@ pub look-requires-clause-hops : goal.look-requires-clause-hops
 look-requires-clause-hops c =
     subst (λ s. AreHops s c.cycles.hops.items) (sym (c.step_cycle.ensures.set ∙ c.cycles.invariant.0.same)) c.cycles.invariant.3
 
-pub overflow_add-cycles : goal.overflow_add-cycles
-overflow_add-cycles c =
-    let g = c.args.machine.now.set in
-    let procs : proc_count g.topo ≤ 256 = omega (arith, c.procs-procs.ensures.few, c.procs-procs.ensures.value) in
-    omega (arith, few_cycles g c.set-set.ensures.valid procs c.cycles.cycles c.cycles.invariant.1)
-
-pub cycles-smaller : goal.cycles-smaller
-cycles-smaller c =
-    let g = c.args.machine.now.set in
-    let procs : proc_count g.topo ≤ 256 = omega (arith, c.procs-procs.ensures.few, c.procs-procs.ensures.value) in
-    omega (arith, few_cycles g c.set-set.ensures.valid procs c.cycles.cycles c.cycles.invariant.1)
-
 pub cycles-preserved : goal.cycles-preserved
 cycles-preserved c =
     let g = c.args.machine.now.set in
@@ -91,15 +65,17 @@ cycles-preserved c =
     let did = c.step_cycle.ensures in
     let same = did.set ∙ c.cycles.invariant.0.same in
     let next : suc k ≡ k + 1 = omega arith in
-    let now = goes_told g valid c.cycles.machine k c.cycles.invariant.0.taken did.tiles c.cycles-test.ensures.goes in
+    let more = more_on g k c.cycles.invariant.1 (goes_told g valid c.cycles.machine k c.cycles.invariant.0.taken did.tiles c.cycles-test.ensures.goes) in
+    let procs : proc_count g.topo ≤ 256 = omega (arith, c.procs-procs.ensures.few, c.procs-procs.ensures.value) in
     let known : AreKnown g hops (k + 1) c.look.new.next =
     subst (λ j. AreKnown g hops j c.look.new.next) next (subst (λ s. AreKnown s hops (suc k) c.look.new.next) same c.in_ok-look.ensures.known) in (
       next_stepped g valid k c.cycles.machine n c.cycles.account c.step_cycle.new.account c.cycles.passed c.step_cycle.new.passed
           c.cycles.invariant.0 did.set did.cycle did.account did.turns did.tiles did.few,
-      more_on g k c.cycles.invariant.1 now,
+      more,
       subst (AreKnown g hops (k + 1)) (sym c.copy_from_slice.ensures.after) known,
       subst (λ s. AreHops s hops) same c.in_ok-look.ensures.hops,
       known.many,
+      few_cycles g valid procs (k + 1) more,
     )
 
 pub returns-clause-cycles : goal.returns-clause-cycles
@@ -109,12 +85,6 @@ returns-clause-cycles c =
       over = over_told g c.set-set.ensures.valid c.cycles.machine c.cycles.cycles c.cycles.invariant.0.taken c.step_cycle.ensures.tiles c.cycles-test.ensures.goes;
       before = c.cycles.invariant.1;
     }
-
-pub returns-clause-few : goal.returns-clause-few
-returns-clause-few c =
-    let g = c.args.machine.now.set in
-    let procs : proc_count g.topo ≤ 256 = omega (arith, c.procs-procs.ensures.few, c.procs-procs.ensures.value) in
-    omega (arith, few_cycles g c.set-set.ensures.valid procs c.cycles.cycles c.cycles.invariant.1)
 
 pub returns-clause-state : goal.returns-clause-state
 returns-clause-state c =

@@ -1,4 +1,4 @@
-use Rattle.std.proofs.Common.{◌≡◌, ◌<◌, ◌-◌, ◌^◌, ℕ, length}
+use Rattle.std.proofs.Common.{◌≡◌, ◌<◌, ◌≤◌, ◌-◌, ◌^◌, ℕ, length}
 use Rattle.raw_grid.specs.Topology.{proc_count}
 use Rattle.raw_clock.specs.Clock.{clock, GoesOn}
 use Rattle.raw_whole.proofs.Stepped.{IsStepped}
@@ -12,6 +12,7 @@ invariant-cycles l =
     × AreKnown l.fn.machine.set l.hops.items l.cycles l.seen
     × AreHops l.fn.machine.set l.hops.items
     × (length l.next ≡ proc_count l.fn.machine.set.topo)
+    × (l.cycles ≤ 2 ^ 40)
 
 abbrev pub decreases-cycles : goal.decreases-cycles
 decreases-cycles l = 2 ^ 41 - l.cycles
