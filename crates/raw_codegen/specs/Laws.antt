@@ -1,17 +1,44 @@
--- How a machine goes on with a script; `src/laws.rt` claims it of every set.
-use Rattle.std.specs.Prelude.{◌≡◌, ◌≢◌, ℕ, ◌+◌, ◌*◌, ◌<◌, List, [], ◌∷◌, ◌++◌, length, map, slice_get}
+-- What parts give, and how a machine goes on with a script; `src/laws.rt` claims it of every set.
+use Rattle.std.specs.Prelude.{◌≡◌, ◌≢◌, ℕ, ◌+◌, ◌*◌, ◌<◌, Option, List, [], ◌∷◌, ◌++◌, length, map, slice_get}
+use Rattle.std.specs.Option.{option_to_list}
 use Rattle.raw_network.specs.Network.{values_on}
 use Rattle.raw_tile_isa.specs.Instruction.{Instruction}
 use Rattle.raw_switch_isa.specs.Instruction.{SwitchInstruction}
 use Rattle.raw_grid.specs.declared.parts.Net.{Net}
 use Rattle.raw_grid.specs.declared.parts.PortPlace.{PortPlace}
 use Rattle.raw_grid.specs.Topology.{tile_count, switch_number}
-use Rattle.raw_model.specs.Program.{ProgramSet}
+use Rattle.raw_model.specs.Program.{ProgramSet, TileProgram}
 use Rattle.raw_model.specs.Start.{MachineState, start, first_memory, first_port}
-use Rattle.raw_codegen.specs.Parts.{Part, ToTile, ToSwitch, to_tile}
+use Rattle.raw_codegen.specs.Parts.{Part, ToTile, ToSwitch, tile_part, switch_part, to_tile, to_switches, Gives, script_programs}
+use Rattle.raw_codegen.specs.Limits.{AreShort, IsTooLong, Overflows}
 use Rattle.raw_codegen.specs.Steps.{Leads, SameWires, HasCome, IsGone, HasPassed}
 use Rattle.raw_codegen.specs.Straight.{Turns, SendsWord, TakesWord, PassesOn}
 use Rattle.raw_codegen.specs.Standing.{to_tile_wire, from_tile_wire, IsScript, PartsStand, HasGone, SameBut, PortsAreStopped, HasHalted}
+
+-- what parts give to tiles and switches
+pub record PartsGive : Type 0 where
+  pub tile_append : (t : ℕ) (xs ys : List Part) → tile_part t (xs ++ ys) ≡ tile_part t xs ++ tile_part t ys
+  pub switch_append : (t : ℕ) (xs ys : List Part) → switch_part t (xs ++ ys) ≡ switch_part t xs ++ switch_part t ys
+  -- a block gives its instructions to its tile alone,
+  pub block : (t : ℕ) (code : List Instruction) → tile_part t (to_tile t code) ≡ code
+  pub block_elsewhere : (t u : ℕ) (code : List Instruction) → u ≢ t → tile_part u (to_tile t code) ≡ []
+  pub block_switch : (t u : ℕ) (code : List Instruction) → switch_part u (to_tile t code) ≡ []
+  -- and so does an instruction for a switch;
+  pub one_switch : (t : ℕ) (ins : SwitchInstruction) → switch_part t (ToSwitch t ins ∷ []) ≡ ins ∷ []
+  pub one_elsewhere : (t u : ℕ) (ins : SwitchInstruction) → u ≢ t → switch_part u (ToSwitch t ins ∷ []) ≡ []
+  -- instructions for all switches give each its own
+  pub switches : (given : ℕ → Option SwitchInstruction) (t n : ℕ) → t < n → switch_part t (to_switches n given) ≡ option_to_list (given t)
+  pub switches_tile : (given : ℕ → Option SwitchInstruction) (t n : ℕ) → tile_part t (to_switches n given) ≡ []
+
+-- parts are given one after another, and what is too long stays so
+pub record GivingLaws : Type 0 where
+  pub none : (n : ℕ) (tiles : List TileProgram) → Gives n [] tiles tiles
+  pub both : (n : ℕ) (x y : List Part) (a b c : List TileProgram) → Gives n x a b → Gives n y b c → Gives n (x ++ y) a c
+  pub more : (n : ℕ) (x y : List Part) (a : List TileProgram) → Overflows n x a → Overflows n (x ++ y) a
+  pub later : (n : ℕ) (x y : List Part) (a b : List TileProgram) → Gives n x a b → Overflows n y b → Overflows n (x ++ y) a
+  pub longer : (n : ℕ) (parts more : List Part) → IsTooLong n parts → IsTooLong n (parts ++ more)
+  -- no script has such programs that is within the limits
+  pub too_long : (n : ℕ) (parts : List Part) → IsTooLong n parts → ¬ (AreShort (script_programs n parts))
 
 -- at the start a machine has executed none of the parts, and no wire holds a value
 abbrev pub StartsWithNone : Type 0

@@ -1,7 +1,6 @@
 //! The laws of scripts. Each function does nothing: its contract is the law.
-ghost use Rattle.std.specs.Prelude.{◌≡◌, ◌≢◌, ◌⊎◌, ℕ, ◌+◌, ◌*◌, ◌^◌, ◌<◌, ◌≤◌, Option, List, [], ◌∷◌, ◌++◌, length, slice_index, sum_by, Some, All};
+ghost use Rattle.std.specs.Prelude.{◌≡◌, ◌≢◌, ℕ, ◌+◌, ◌*◌, ◌^◌, ◌<◌, ◌≤◌, List, [], ◌∷◌, ◌++◌, length, slice_index, sum_by, Some, All};
 ghost use Rattle.std.specs.List.{AllByRecursion};
-ghost use Rattle.std.specs.Option.{option_to_list};
 ghost use Rattle.raw_codegen.specs.declared.limits.TheConstants.{WORDS_IN_REACH};
 ghost use Rattle.raw_network.specs.Network.{values_on};
 ghost use Rattle.raw_tile_isa.specs.declared.limits.TheConstants.{MAX_TILE_CODE};
@@ -9,7 +8,6 @@ ghost use Rattle.raw_tile_isa.specs.Instruction.{Instruction, IsTileIns};
 ghost use Rattle.raw_tile_isa.specs.Load.{load};
 ghost use Rattle.raw_tile_isa.specs.Made as tile;
 ghost use Rattle.raw_switch_isa.specs.declared.limits.TheConstants.{MAX_SWITCH_CODE};
-ghost use Rattle.raw_switch_isa.specs.Instruction.{SwitchInstruction};
 ghost use Rattle.raw_switch_isa.specs.Made as switch;
 ghost use Rattle.raw_grid.specs.declared.parts.Net.{Net};
 ghost use Rattle.raw_grid.specs.declared.parts.Side.{Side};
@@ -20,14 +18,14 @@ ghost use Rattle.raw_model.specs.Program.{ProgramSet, TileProgram, IsTileProgram
 ghost use Rattle.raw_model.specs.Local.{Local};
 ghost use Rattle.raw_model.specs.TileTable.{gives, word_at};
 ghost use Rattle.raw_model.specs.Machine.{tile_code, switch_code};
-ghost use Rattle.raw_model.specs.Start.{MachineState, start, first_memory};
-ghost use Rattle.raw_codegen.specs.Parts.{Part, ToTile, ToSwitch, tile_part, switch_part, to_tile, to_switches, Gives, script_programs};
+ghost use Rattle.raw_model.specs.Start.{MachineState, start};
+ghost use Rattle.raw_codegen.specs.Parts.{Part, ToSwitch, tile_part, switch_part, to_tile, script_programs};
 ghost use Rattle.raw_codegen.specs.Lawful.{IsPart, AreParts};
-ghost use Rattle.raw_codegen.specs.Limits.{AreShort, IsTooLong, Overflows};
+ghost use Rattle.raw_codegen.specs.Limits.{AreShort};
 ghost use Rattle.raw_codegen.specs.Steps.{Leads, IsNext, one_value, Changed, SameWires, HasCome, IsGone, HasPassed};
-ghost use Rattle.raw_codegen.specs.Straight.{Core, IsCore, core_with, at_tile, row_of_ins, nothing, only, Does, IsPlain, IsSender, IsTaker, Runs, Turns, SendsWord, TakesWord, PassesOn};
-ghost use Rattle.raw_codegen.specs.Standing.{to_tile_wire, from_tile_wire, IsScript, PartsStand, HasGone, SameBut, PortsAreStopped, HasHalted};
-ghost use Rattle.raw_codegen.specs.Laws.{StartsWithNone, StartsIdle, StartsWithPorts, EachBlockRuns, EachSendRuns, EachTakeRuns, EachPassRuns, EachHalts};
+ghost use Rattle.raw_codegen.specs.Straight.{Core, IsCore, core_with, at_tile, row_of_ins, nothing, only, Does, IsPlain, IsSender, IsTaker, Runs, PassesOn};
+ghost use Rattle.raw_codegen.specs.Standing.{IsScript};
+ghost use Rattle.raw_codegen.specs.Laws.{PartsGive, GivingLaws, StartsWithNone, StartsIdle, StartsWithPorts, EachBlockRuns, EachSendRuns, EachTakeRuns, EachPassRuns, EachHalts};
 ghost use Rattle.raw_codegen.specs.Rows.{register_of, IsKeeping, send_ins, load_ins, store_ins, from_side, to_side, written, with_word};
 
 use raw_grid::{law_ends, law_wires};
@@ -54,30 +52,12 @@ pub fn law_single_steps()
 
 /// What parts give to tiles and switches.
 pub fn law_parts()
-    ensures tile_append { (t : ℕ) (xs ys : List Part) → tile_part t (xs ++ ys) ≡ tile_part t xs ++ tile_part t ys }
-    ensures switch_append { (t : ℕ) (xs ys : List Part) → switch_part t (xs ++ ys) ≡ switch_part t xs ++ switch_part t ys }
-    // A block gives its instructions to its tile alone,
-    ensures block { (t : ℕ) (code : List Instruction) → tile_part t (to_tile t code) ≡ code }
-    ensures block_elsewhere { (t u : ℕ) (code : List Instruction) → u ≢ t → tile_part u (to_tile t code) ≡ [] }
-    ensures block_switch { (t u : ℕ) (code : List Instruction) → switch_part u (to_tile t code) ≡ [] }
-    // and so does an instruction for a switch;
-    ensures one_switch { (t : ℕ) (ins : SwitchInstruction) → switch_part t (ToSwitch t ins ∷ []) ≡ ins ∷ [] }
-    ensures one_elsewhere { (t u : ℕ) (ins : SwitchInstruction) → u ≢ t → switch_part u (ToSwitch t ins ∷ []) ≡ [] }
-    // instructions for all switches give each its own.
-    ensures switches { (given : ℕ → Option SwitchInstruction) (t n : ℕ) → t < n →
-        switch_part t (to_switches n given) ≡ option_to_list (given t) }
-    ensures switches_tile { (given : ℕ → Option SwitchInstruction) (t n : ℕ) → tile_part t (to_switches n given) ≡ [] }
+    ensures { PartsGive }
 {}
 
 /// Parts are given one after another, and what is too long stays so.
 pub fn law_giving()
-    ensures none { (n : ℕ) (tiles : List TileProgram) → Gives n [] tiles tiles }
-    ensures both { (n : ℕ) (x y : List Part) (a b c : List TileProgram) → Gives n x a b → Gives n y b c → Gives n (x ++ y) a c }
-    ensures more { (n : ℕ) (x y : List Part) (a : List TileProgram) → Overflows n x a → Overflows n (x ++ y) a }
-    ensures later { (n : ℕ) (x y : List Part) (a b : List TileProgram) → Gives n x a b → Overflows n y b → Overflows n (x ++ y) a }
-    ensures longer { (n : ℕ) (parts more : List Part) → IsTooLong n parts → IsTooLong n (parts ++ more) }
-    // No script has such programs that is within the limits.
-    ensures too_long { (n : ℕ) (parts : List Part) → IsTooLong n parts → ¬ (AreShort (script_programs n parts)) }
+    ensures { GivingLaws }
 {}
 
 /// The programs of a set whose programs are those of a script.

@@ -13,7 +13,7 @@ use raw_tile_isa::{MAX_TILE_CODE, TileIns, li};
 use std::alloc::{AllocError, Global};
 use std::marker::Model;
 
-/// Why an instruction was not given.
+/// Why an instruction was not given, or programs were not made.
 #[derive(Clone, Copy, Drop, PartialEq, Eq)]
 pub enum GiveRefusal {
     /// With it and `halt` a program would be longer than a set allows, or all together.

@@ -8,7 +8,7 @@ use Rattle.raw_codegen.specs.Limits.{Overflows}
 use Rattle.raw_codegen.specs.Rows.{store_ins, from_side, to_side}
 use Rattle.raw_route.specs.Hauls.{Haulage}
 use Rattle.raw_route.specs.Tree.{tree_ins}
-use Rattle.raw_route.proofs.HaulParts.{GivingLaws, to_tile_split}
+use Rattle.raw_route.proofs.HaulParts.{to_tile_split}
 use Rattle.raw_flow.specs.declared.node.FlowOp.{FlowOp}
 use Rattle.raw_flow.specs.declared.node.Node.TheVariants.{Apply}
 use Rattle.raw_flow.specs.Flows.{Dataflow}
@@ -19,6 +19,7 @@ use Rattle.raw_switch_isa.specs.Instruction.{SwitchInstruction}
 use Rattle.raw_flow.specs.Ports.{FlowPorts, tile_at}
 use Rattle.raw_flow.specs.Compiled.{tiles_in, home, send_value, take_value, one_haul, carried, moved, taken_at, given_at, const_code, apply_code, node_parts, held_node}
 use Rattle.raw_flow.specs.Given.{AreGiven}
+use Rattle.raw_codegen.specs.Laws.{GivingLaws}
 
 module _ (laws : GivingLaws) where
   -- a constant

@@ -13,7 +13,7 @@ use Rattle.raw_flow.specs.Ports.{FlowPorts, ArePorts, picked, placed_topo}
 use Rattle.raw_flow.specs.Compiled.{tiles_in, inputs_from, first_held, nodes_from, all_held, outs_from, flow_parts, sink_program, port_programs, compiled_at}
 use Rattle.raw_flow.specs.Right.{EachPlacedIsSet}
 use Rattle.raw_flow.proofs.PortPrograms.{sink_given}
-use Rattle.raw_route.proofs.HaulParts.{GivingLaws}
+use Rattle.raw_codegen.specs.Laws.{GivingLaws}
 
 -- all parts, given one after another
 module _ (laws : GivingLaws) (flow : Dataflow) (ports : FlowPorts) (w0 : List TileProgram) (is : w0 ≡ programs_of (tiles_in flow) []) where

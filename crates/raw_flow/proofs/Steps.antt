@@ -14,8 +14,8 @@ use Rattle.raw_flow.specs.Compiled.{tiles_in, sink_tile, input_parts, held_input
 use Rattle.raw_flow.specs.Given.{AreGiven}
 use Rattle.raw_flow.proofs.Counting.{inputs_next}
 use Rattle.raw_flow.proofs.Phases.{held_outs}
+use Rattle.raw_codegen.specs.Laws.{GivingLaws}
 pub use Rattle.raw_flow.proofs.Picked.{drop_next}
-use Rattle.raw_route.proofs.HaulParts.{GivingLaws}
 
 -- from place i on, `rest` are the parts that are given where these are held, and `last` is what is held after them; the programs have come
 -- from their first ones to place i

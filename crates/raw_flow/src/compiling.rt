@@ -14,7 +14,6 @@ use crate::giving::{give_input, give_node, give_out};
 use crate::laws::{law_compiled_at, law_flow_at};
 use crate::places::Places;
 use crate::ports::{Ports, keeps_rules, placed_topo, port_programs, tiles_in};
-use crate::refusal::FlowRefusal;
 use raw_codegen::{GiveRefusal, PARTS_LIMIT, Programs, law_giving, words_fit};
 use raw_model::limits::DEFAULT_DEPTH;
 use raw_model::{Set, TileProg};
@@ -128,18 +127,17 @@ pub fn compile_at(
     flow: &Flow,
     ports: &Ports,
     inputs: &[u32],
-) -> Result<Set, FlowRefusal>
+) -> Result<Set, GiveRefusal>
     requires ports { ArePorts flow.now ports.now }
     requires inputs { length inputs.now ≡ inputs_in flow.now.nodes }
     ensures set { IfOk result (λ set. set ≡ compiled_at flow.now ports.now inputs.now) }
     ensures right { IfOk result (λ _. EachRunIsRightAt flow.now ports.now inputs.now) }
-    ensures refusal { IfErr result (λ refusal. (refusal ≡ FlowRefusal.Memory)
-        ⊎ ((refusal ≡ FlowRefusal.TooMany) × (¬ (AreShort (compiled_at flow.now ports.now inputs.now).tiles)))) }
+    ensures refusal { IfErr result (λ refusal. (refusal ≡ GiveRefusal.Memory)
+        ⊎ ((refusal ≡ GiveRefusal.TooMany) × (¬ (AreShort (compiled_at flow.now ports.now inputs.now).tiles)))) }
 {
     let tiles = match programs(alloc, flow, ports) {
         Ok(tiles) => tiles,
-        Err(GiveRefusal::TooMany) => return Err(FlowRefusal::TooMany),
-        Err(GiveRefusal::Memory) => return Err(FlowRefusal::Memory),
+        Err(refusal) => return Err(refusal),
     };
     keeps_rules(flow);
     words_fit(inputs);
@@ -159,12 +157,12 @@ pub fn compile_at(
 
 /// The compiled set of a flow with a source and a sink at the west of tile 0. Each lawful list of its steps that comes to
 /// rest is done, with the values of the outs in the sink, in their order.
-pub fn compile(alloc: Global, flow: &Flow, inputs: &[u32]) -> Result<Set, FlowRefusal>
+pub fn compile(alloc: Global, flow: &Flow, inputs: &[u32]) -> Result<Set, GiveRefusal>
     requires { length inputs.now ≡ inputs_in flow.now.nodes }
     ensures set { IfOk result (λ set. set ≡ compiled flow.now inputs.now) }
     ensures right { IfOk result (λ _. EachRunIsRight flow.now inputs.now) }
-    ensures refusal { IfErr result (λ refusal. (refusal ≡ FlowRefusal.Memory)
-        ⊎ ((refusal ≡ FlowRefusal.TooMany) × (¬ (AreShort (compiled flow.now inputs.now).tiles)))) }
+    ensures refusal { IfErr result (λ refusal. (refusal ≡ GiveRefusal.Memory)
+        ⊎ ((refusal ≡ GiveRefusal.TooMany) × (¬ (AreShort (compiled flow.now inputs.now).tiles)))) }
 {
     keeps_rules(flow);
     let ports = Ports::usual(alloc)?;

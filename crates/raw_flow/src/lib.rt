@@ -21,7 +21,6 @@ mod limits;
 mod node;
 mod places;
 mod ports;
-mod refusal;
 mod values;
 
 pub use compiling::{compile, compile_at};
@@ -30,5 +29,4 @@ pub use laws::{law_compiled, law_compiled_at, law_flow, law_flow_at, law_values}
 pub use limits::MAX_NODES;
 pub use node::{FlowOp, Node};
 pub use ports::Ports;
-pub use refusal::FlowRefusal;
 pub use values::direct;

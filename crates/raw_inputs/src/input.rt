@@ -15,9 +15,10 @@ ghost use Rattle.raw_inputs.specs.Inputs.{whole, Means, IsRefusalOf, IsNoStream}
 
 use crate::flaw::{Failure, InputFlaw, LineKind, Refusal};
 use crate::form::InputForm;
+use raw_codegen::GiveRefusal;
 use raw_command_line::SetForm;
 use raw_either_flow::read_either;
-use raw_flow::{FlowRefusal, compile_at};
+use raw_flow::compile_at;
 use raw_image::{ImageRefusal, read_image};
 use raw_model::Set;
 use raw_plan_text::read_plan;
@@ -212,11 +213,11 @@ fn set_of_flow(alloc: Global, input: Vec<u8>) -> Result<Set, Failure>
     };
     match compile_at(alloc, &read.flow, &read.ports, &read.inputs) {
         Ok(set) => Ok(set),
-        Err(FlowRefusal::TooMany) => Err(refused_at(
+        Err(GiveRefusal::TooMany) => Err(refused_at(
             text.line_count() as u32 + 1,
             SetKind::OverLimit,
         )),
-        Err(FlowRefusal::Memory) => Err(Failure::Memory),
+        Err(GiveRefusal::Memory) => Err(Failure::Memory),
     }
 }
 

@@ -13,7 +13,8 @@ ghost use Rattle.raw_command_line.specs.declared.arguments.ReadingCommand.TheVar
 ghost use Rattle.raw_command_line.specs.declared.arguments.Command.TheVariants.{Reads};
 
 use raw_choice::choose;
-use raw_flow::{FlowRefusal, compile};
+use raw_codegen::GiveRefusal;
+use raw_flow::compile;
 use raw_flow_text::read_flow;
 use raw_inputs::{Failure, refused_at, refused_flow, refused_text};
 use raw_io::Sink;
@@ -38,8 +39,8 @@ fn set_for_flow(alloc: Global, text: &Text) -> Result<Set, Failure>
     };
     let compiled = match compile(alloc, &read.flow, &read.inputs) {
         Ok(set) => Some(set),
-        Err(FlowRefusal::TooMany) => None,
-        Err(FlowRefusal::Memory) => return Err(Failure::Memory),
+        Err(GiveRefusal::TooMany) => None,
+        Err(GiveRefusal::Memory) => return Err(Failure::Memory),
     };
     match choose(alloc, &read.flow, &read.inputs, compiled) {
         Ok(Some(set)) => Ok(set),

@@ -1,12 +1,9 @@
 -- The laws of the crates below that the theorem of planned sets uses.
-use Rattle.std.proofs.Common.{◌≡◌, ℕ, ◌+◌, ◌*◌, ◌^◌, ◌<◌, ◌≤◌, List, [], ◌∷◌, ◌++◌, length, Option}
+use Rattle.std.proofs.Common.{◌≡◌, ℕ, ◌+◌, ◌*◌, ◌^◌, ◌<◌, ◌≤◌, List, [], ◌∷◌, ◌++◌, length}
 use Rattle.std.specs.Prelude.{slice_index}
-use Rattle.std.specs.Option.{option_to_list}
 use Rattle.raw_codegen.specs.declared.limits.TheConstants.{WORDS_IN_REACH}
 use Rattle.raw_switch_isa.specs.declared.limits.TheConstants.{MAX_SWITCH_CODE}
-use Rattle.raw_tile_isa.specs.Instruction.{Instruction}
 use Rattle.raw_tile_isa.specs.Load.{load}
-use Rattle.raw_switch_isa.specs.Instruction.{SwitchInstruction}
 use Rattle.raw_switch_isa.specs.Made as switch
 use Rattle.raw_grid.specs.declared.parts.Net.{Net}
 use Rattle.raw_grid.specs.Topology.{tile_count, switch_number}
@@ -16,21 +13,11 @@ use Rattle.raw_model.specs.Machine.{switch_code}
 use Rattle.raw_model.specs.Start.{MachineState, Fits}
 use Rattle.raw_model.specs.Laws.{ComesToRest}
 use Rattle.raw_model.specs.Rest.{IsLawfulFrom, end_from}
-use Rattle.raw_codegen.specs.Parts.{Part, tile_part, switch_part, to_tile, to_switches}
+use Rattle.raw_codegen.specs.Parts.{Part, switch_part}
 use Rattle.raw_codegen.specs.Straight.{Core, IsCore, core_with, nothing, only, Does, IsSender, IsTaker, Runs}
 use Rattle.raw_codegen.specs.Standing.{IsScript}
-use Rattle.raw_codegen.specs.Laws.{StartsWithNone, StartsIdle, EachSendRuns, EachTakeRuns, EachHalts}
+use Rattle.raw_codegen.specs.Laws.{PartsGive, StartsWithNone, StartsIdle, EachSendRuns, EachTakeRuns, EachHalts}
 use Rattle.raw_codegen.specs.Rows.{register_of, IsKeeping, send_ins, store_ins, written, with_word}
-
--- what parts give
-pub record PartsGive : Type 0 where
-  pub tile_append : (t : ℕ) (xs ys : List Part) → tile_part t (xs ++ ys) ≡ tile_part t xs ++ tile_part t ys
-  pub switch_append : (t : ℕ) (xs ys : List Part) → switch_part t (xs ++ ys) ≡ switch_part t xs ++ switch_part t ys
-  pub block : (t : ℕ) (code : List Instruction) → tile_part t (to_tile t code) ≡ code
-  pub block_elsewhere : (t u : ℕ) (code : List Instruction) → (u ≡ t → ⊥) → tile_part u (to_tile t code) ≡ []
-  pub block_switch : (t u : ℕ) (code : List Instruction) → switch_part u (to_tile t code) ≡ []
-  pub switches : (given : ℕ → Option SwitchInstruction) (t n : ℕ) → t < n → switch_part t (to_switches n given) ≡ option_to_list (given t)
-  pub switches_tile : (given : ℕ → Option SwitchInstruction) (t n : ℕ) → tile_part t (to_switches n given) ≡ []
 
 -- the laws by which the parts of a tree run
 pub record TreeLaws : Type 0 where

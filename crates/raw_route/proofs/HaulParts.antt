@@ -22,12 +22,7 @@ use Rattle.raw_route.specs.Planned.{Sending, is_among, words_to, send_code, stor
 use Rattle.raw_route.specs.Counts.{AreCounts}
 use Rattle.raw_route.proofs.Members.{in_contains}
 use Rattle.raw_route.proofs.Words.{among_is, words_more}
-
-pub record GivingLaws : Type 0 where
-  pub none : (n : ℕ) (tiles : List TileProgram) → Gives n [] tiles tiles
-  pub both : (n : ℕ) (x y : List Part) (a b c : List TileProgram) → Gives n x a b → Gives n y b c → Gives n (x ++ y) a c
-  pub more : (n : ℕ) (x y : List Part) (a : List TileProgram) → Overflows n x a → Overflows n (x ++ y) a
-  pub later : (n : ℕ) (x y : List Part) (a b : List TileProgram) → Gives n x a b → Overflows n y b → Overflows n (x ++ y) a
+use Rattle.raw_codegen.specs.Laws.{GivingLaws}
 
 pub to_tile_split : (t : ℕ) (xs ys : List Instruction) → to_tile t (xs ++ ys) ≡ to_tile t xs ++ to_tile t ys
 to_tile_split t [] ys = refl

@@ -23,12 +23,12 @@ use Rattle.raw_codegen.specs.Limits.{IsShort, AreShort}
 use Rattle.raw_codegen.specs.Rows.{register_of, send_ins, store_ins}
 use Rattle.raw_route.specs.Tree.{tree_ins}
 use Rattle.raw_route.specs.Planned.{Sending, IsSending, words_to, send_code, store_part, parts_from, show_of, plan_parts, planned}
-use Rattle.raw_route.proofs.Given.{PartsGive}
 use Rattle.raw_route.proofs.Lawful.{tree_parts}
 use Rattle.raw_route.proofs.Members.{In, in_range}
 use Rattle.raw_route.proofs.Relay.{entry_first, entry_behind}
 use Rattle.raw_route.proofs.Trees.{target_inside}
 use Rattle.raw_route.proofs.Words.{words_before, words_short}
+use Rattle.raw_codegen.specs.Laws.{PartsGive}
 
 -- what is known of lawful parts
 pub record PartsLaws : Type 0 where

@@ -18,9 +18,9 @@ use Rattle.raw_route.specs.Planned.{Sending, IsSending, sendings, words_to, haul
 use Rattle.raw_route.specs.Counts.{AreCounts, HasManyWords}
 use Rattle.raw_route.specs.Refusals.{fault_of, first_fault, AreLawful}
 use Rattle.raw_route.proofs.Faultless.{is_haul, placed_none, all_sendings}
-use Rattle.raw_route.proofs.Given.{PartsGive}
 use Rattle.raw_route.proofs.PlannedSets.{grid_lawful}
 use Rattle.raw_route.proofs.Words.{parts_append, words_short}
+use Rattle.raw_codegen.specs.Laws.{PartsGive}
 
 -- the haul at a place is lawful
 pub haul_at : (tiles place : ℕ) (hauls : List Haulage) (i : ℕ) (d : Haulage) → first_fault tiles place hauls ≡ None → i < length hauls → IsHaul tiles (get_or hauls i d)

@@ -12,9 +12,9 @@ use Rattle.raw_grid.specs.Topology.{Topology, IsTopology, tile_count}
 use Rattle.raw_codegen.specs.Parts.{Part, switch_part, to_tile, to_switches}
 use Rattle.raw_route.specs.Tree.{in_tree, tree_instruction, tree_ins}
 use Rattle.raw_route.specs.Planned.{Sending, IsSending, is_among, words_to, send_code, store_part, haul_parts, parts_from}
-use Rattle.raw_route.proofs.Given.{PartsGive}
 use Rattle.raw_route.proofs.Members.{In, any_in, in_any, in_contains, Ordered}
 use Rattle.raw_route.proofs.Trees.{target_inside, left_passed, target_left}
+use Rattle.raw_codegen.specs.Laws.{PartsGive}
 
 -- no entry is as one behind it
 pub distinct_from : (xs : List ℕ) → AllPairs (λ a b. a ≢ b) xs → Ordered (λ a b. a ≡ b → ⊥) xs

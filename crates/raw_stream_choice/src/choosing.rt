@@ -9,7 +9,7 @@ use crate::laws::law_compiled_meets;
 use crate::meeting::is_proved;
 use crate::ports::ports_of;
 use crate::stream_set::set_with;
-use raw_flow::FlowRefusal;
+use raw_codegen::GiveRefusal;
 use raw_grid::MAX_TILES;
 use raw_model::{Set, TileProg};
 use raw_pipeline::find_pipeline;
@@ -81,8 +81,8 @@ fn compiled_set(alloc: Global, input: &StreamInput) -> Result<Option<Set>, Alloc
             let _limit = set.limit;
             Ok(Some(set))
         }
-        Ok(None) | Err(FlowRefusal::TooMany) => Ok(None),
-        Err(FlowRefusal::Memory) => Err(AllocError),
+        Ok(None) | Err(GiveRefusal::TooMany) => Ok(None),
+        Err(GiveRefusal::Memory) => Err(AllocError),
     }
 }
 

@@ -5,7 +5,8 @@ ghost use Rattle.raw_stream.specs.Unrolled.{word_count};
 
 use crate::orders::turn;
 use raw_asm::AsmKind;
-use raw_flow::{FlowRefusal, direct};
+use raw_codegen::GiveRefusal;
+use raw_flow::direct;
 use raw_model::Set;
 use raw_serial::Machine;
 use raw_set_text::{SetKind, SetRefusal};
@@ -157,8 +158,8 @@ fn has_words(alloc: Global, input: &StreamInput, words: &[u32]) -> Result<bool, 
     match compile_stream(alloc, &input.stream, &input.words) {
         Ok(Some(set)) => Ok(received(alloc, &set)?.as_slice() == words),
         Ok(None) => Ok(false),
-        Err(FlowRefusal::TooMany) => Ok(false),
-        Err(FlowRefusal::Memory) => Err("no memory")?,
+        Err(GiveRefusal::TooMany) => Ok(false),
+        Err(GiveRefusal::Memory) => Err("no memory")?,
     }
 }
 

@@ -9,7 +9,8 @@ ghost use Rattle.raw_unroll.specs.Compiled.{compiled_stream, EachStreamRunIsRigh
 use crate::laws::law_placed;
 use crate::ports::stream_ports;
 use crate::whole::unroll;
-use raw_flow::{FlowRefusal, compile_at};
+use raw_codegen::GiveRefusal;
+use raw_flow::compile_at;
 use raw_model::Set;
 use raw_stream::{StreamFlow, law_unrolled};
 use std::alloc::Global;
@@ -21,14 +22,14 @@ pub fn compile_stream(
     alloc: Global,
     stream: &StreamFlow,
     words: &[u32],
-) -> Result<Option<Set>, FlowRefusal>
+) -> Result<Option<Set>, GiveRefusal>
     requires stream { IsStream stream.now }
     requires words { length words.now ≡ word_count stream.now }
     ensures set { IfOk result (λ answer. IfSome answer (λ set. set ≡ compiled_stream stream.now words.now)) }
     ensures right { IfOk result (λ answer. IfSome answer (λ _. EachStreamRunIsRight stream.now words.now)) }
     ensures none { IfOk result (λ answer. (answer ≡ None) ↔ (MAX_NODES < length (unrolled stream.now).nodes)) }
-    ensures refusal { IfErr result (λ refusal. (refusal ≡ FlowRefusal.Memory)
-        ⊎ ((refusal ≡ FlowRefusal.TooMany) × (¬ (AreShort (compiled_stream stream.now words.now).tiles)))) }
+    ensures refusal { IfErr result (λ refusal. (refusal ≡ GiveRefusal.Memory)
+        ⊎ ((refusal ≡ GiveRefusal.TooMany) × (¬ (AreShort (compiled_stream stream.now words.now).tiles)))) }
 {
     law_unrolled();
     law_placed();

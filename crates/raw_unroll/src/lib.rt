@@ -8,8 +8,8 @@
 //! match compile_stream(alloc, &input.stream, &input.words) {
 //!     Ok(Some(set)) => Ok(received(alloc, &set)?.as_slice() == words),
 //!     Ok(None) => Ok(false),
-//!     Err(FlowRefusal::TooMany) => Ok(false),
-//!     Err(FlowRefusal::Memory) => Err("no memory")?,
+//!     Err(GiveRefusal::TooMany) => Ok(false),
+//!     Err(GiveRefusal::Memory) => Err("no memory")?,
 //! }
 //! ```
 #![tactic(auto)]

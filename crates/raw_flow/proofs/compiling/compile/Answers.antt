@@ -3,8 +3,8 @@ use Rattle.std.specs.Prelude.{IfOk, IfErr}
 use Rattle.std.proofs.lemmas.Result.{IfOk-weaker}
 use Rattle.raw_model.specs.Program.{ProgramSet}
 use Rattle.raw_codegen.specs.Limits.{AreShort}
-use Rattle.raw_flow.specs.declared.refusal.FlowRefusal.{FlowRefusal}
-use Rattle.raw_flow.specs.declared.refusal.FlowRefusal.TheVariants.{TooMany, Memory}
+use Rattle.raw_codegen.specs.declared.programs.GiveRefusal.{GiveRefusal}
+use Rattle.raw_codegen.specs.declared.programs.GiveRefusal.TheVariants.{TooMany, Memory}
 use Rattle.raw_flow.specs.Ports.{FlowPorts, ArePorts, usual_ports}
 use Rattle.raw_flow.specs.Compiled.{compiled_at, compiled}
 use Rattle.raw_flow.specs.Right.{EachRunIsRightAt, EachRunIsRight}
@@ -30,5 +30,5 @@ returns-clause-right c =
 pub returns-clause-refusal : goal.returns-clause-refusal
 unfolding compiled
 returns-clause-refusal c =
-    subst (λ (p : FlowPorts). IfErr c.compile_at.result (λ (refusal : FlowRefusal). (refusal ≡ Memory) ⊎ ((refusal ≡ TooMany) × (AreShort (compiled_at c.args.flow.now p c.args.inputs.now).tiles → ⊥)))) c.in_ok-ports.ensures
+    subst (λ (p : FlowPorts). IfErr c.compile_at.result (λ (refusal : GiveRefusal). (refusal ≡ Memory) ⊎ ((refusal ≡ TooMany) × (AreShort (compiled_at c.args.flow.now p c.args.inputs.now).tiles → ⊥)))) c.in_ok-ports.ensures
     c.compile_at.ensures.refusal

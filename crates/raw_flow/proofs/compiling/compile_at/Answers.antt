@@ -1,11 +1,17 @@
-use Rattle.std.proofs.Common.{Err, inr, refl, ap, sym, subst}
+use Rattle.std.proofs.Common.{◌≡◌, ◌⊎◌, Err, inl, inr, refl, ap, sym, subst}
+use Rattle.raw_codegen.specs.declared.programs.GiveRefusal.{GiveRefusal}
+use Rattle.raw_codegen.specs.declared.programs.GiveRefusal.TheVariants.{TooMany, Memory}
 use Rattle.raw_model.specs.Program.{ProgramSet, IsSet}
 use Rattle.raw_flow.proofs.Sets.{set_is, is_valid, outs_fit, tiles_not_short}
 use Rattle.raw_flow.proofs.compiling.compile_at.Goals as goal
 
-pub returns-in-Err-TooMany-clause-refusal : goal.returns-in-Err-TooMany-clause-refusal
-returns-in-Err-TooMany-clause-refusal c =
-    inr (refl, tiles_not_short c.args.flow.now c.args.ports.now c.args.inputs.now (c.in-Err-TooMany.ensures.too_many (ap (λ r. Err r) c.in-Err-TooMany.field-0-is)))
+refused : {P : Type 0} (refusal : GiveRefusal) → (refusal ≡ TooMany → P) → (refusal ≡ Memory) ⊎ ((refusal ≡ TooMany) × P)
+refused TooMany long = inr (refl, long refl)
+refused Memory long = inl refl
+
+pub returns-in-Err-clause-refusal : goal.returns-in-Err-clause-refusal
+returns-in-Err-clause-refusal c =
+    refused c.in-Err.refusal (λ e. tiles_not_short c.args.flow.now c.args.ports.now c.args.inputs.now (c.in-Err.ensures.too_many (ap (λ r. Err r) e)))
 
 pub port_programs-requires : goal.port_programs-requires
 port_programs-requires c =

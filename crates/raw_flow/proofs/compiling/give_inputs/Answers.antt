@@ -10,16 +10,14 @@ use Rattle.raw_flow.proofs.Counting.{few_before, inputs_next}
 use Rattle.raw_flow.proofs.Picked.{drop_past}
 use Rattle.raw_flow.proofs.Steps.{inputs_rest, inputs_last, input_chunk, at_first, at_next, too_long, at_last}
 use Rattle.raw_flow.proofs.compiling.give_inputs.Goals as goal
-use Rattle.raw_route.proofs.HaulParts.{GivingLaws}
 
 pub loop-v-init : goal.loop-v-init
 loop-v-init c =
-    let laws : GivingLaws = record { none = c.law_giving.ensures.none; both = c.law_giving.ensures.both; more = c.law_giving.ensures.more; later = c.law_giving.ensures.later } in
     let flow = c.args.flow.now in
     let ports = c.args.ports.now in
     record {
       taken = refl;
-      given = λ held are. at_first laws flow (inputs_rest flow ports) (inputs_last flow ports) held c.args.programs.now c.args.places.now are;
+      given = λ held are. at_first c.law_giving.ensures flow (inputs_rest flow ports) (inputs_last flow ports) held c.args.programs.now c.args.places.now are;
     }
 
 pub give_input-requires-clause-inputs : goal.give_input-requires-clause-inputs
@@ -42,7 +40,6 @@ give_input-requires-clause-inputs c =
 pub returns-in_err-taken-clause-too_many : goal.returns-in_err-taken-clause-too_many
 returns-in_err-taken-clause-too_many c = λ held are e.
     let k = rw e at c.from_residual.ensures in
-    let laws : GivingLaws = record { none = c.law_giving.ensures.none; both = c.law_giving.ensures.both; more = c.law_giving.ensures.more; later = c.law_giving.ensures.later } in
     let flow = c.args.flow.now in
     let ports = c.args.ports.now in
     let v = c.loop-v.v in
@@ -52,12 +49,11 @@ returns-in_err-taken-clause-too_many c = λ held are e.
     let there : slice_get flow.nodes v ≡ Some node =
     subst (λ (xs : List Node). slice_get xs v ≡ Some node) (ap (λ (f : Dataflow). f.nodes) c.flow.view_is) (slice_get-get_or items v node within ∙ ap (λ (x : Node). Some x) (sym c.index.ensures)) in
     let at = c.loop-v.invariant.given held are in
-    too_long laws flow (inputs_rest flow ports) (inputs_last flow ports) held c.args.programs.now c.loop-v.programs c.loop-v.places v at (input_chunk flow ports at.held v node there)
+    too_long c.law_giving.ensures flow (inputs_rest flow ports) (inputs_last flow ports) held c.args.programs.now c.loop-v.programs c.loop-v.places v at (input_chunk flow ports at.held v node there)
     (subst (λ n. Overflows (tiles_in flow) (input_parts flow ports n v node) c.loop-v.programs) c.loop-v.invariant.taken (c.in_err-taken.ensures.too_many (ap (λ r. Err r) (sym k.1))))
 
 pub loop-v-preserved : goal.loop-v-preserved
 loop-v-preserved c =
-    let laws : GivingLaws = record { none = c.law_giving.ensures.none; both = c.law_giving.ensures.both; more = c.law_giving.ensures.more; later = c.law_giving.ensures.later } in
     let flow = c.args.flow.now in
     let ports = c.args.ports.now in
     let v = c.loop-v.v in
@@ -75,7 +71,7 @@ loop-v-preserved c =
       taken = c.in_ok-taken.ensures.count ∙ next;
       given = λ held are.
           let at = c.loop-v.invariant.given held are in
-          at_next laws flow (inputs_rest flow ports) (inputs_last flow ports) held c.args.programs.now c.loop-v.programs c.loop-v.places v at
+          at_next c.law_giving.ensures flow (inputs_rest flow ports) (inputs_last flow ports) held c.args.programs.now c.loop-v.programs c.loop-v.places v at
           (input_chunk flow ports at.held v node there) c.give_input.new.programs c.give_input.new.places
           (subst (λ n. AreGiven flow (input_parts flow ports n v node) (held_input flow ports at.held n v node) c.loop-v.programs c.give_input.new.programs c.give_input.new.places) c.loop-v.invariant.taken
           (c.in_ok-taken.ensures.given at.held at.marked));
@@ -83,7 +79,6 @@ loop-v-preserved c =
 
 pub returns-clause-given : goal.returns-clause-given
 returns-clause-given c = λ held are.
-    let laws : GivingLaws = record { none = c.law_giving.ensures.none; both = c.law_giving.ensures.both; more = c.law_giving.ensures.more; later = c.law_giving.ensures.later } in
     let flow = c.args.flow.now in
     let ports = c.args.ports.now in
     let v = c.loop-v.v in
@@ -91,5 +86,5 @@ returns-clause-given c = λ held are.
     let past : length flow.nodes ≤ v =
     let a = c.loop-v-test.false in let b = c.len-v-end.ensures in let d = c.flow.inside.nodes.ok.0 in let e = ap (λ (f : Dataflow). length f.nodes) c.flow.view_is in omega arith in
     let k = inputs_in (take v flow.nodes) in
-    at_last laws flow (inputs_rest flow ports) (inputs_last flow ports) held c.args.programs.now c.loop-v.programs c.loop-v.places v at
+    at_last c.law_giving.ensures flow (inputs_rest flow ports) (inputs_last flow ports) held c.args.programs.now c.loop-v.programs c.loop-v.places v at
     (ap (inputs_from flow ports k v) (drop_past flow.nodes v past)) (ap (held_inputs flow ports at.held k v) (drop_past flow.nodes v past))

@@ -7,12 +7,10 @@ use Rattle.raw_flow.proofs.Picked.{drop_past}
 use Rattle.raw_flow.proofs.Phases.{held_outs}
 use Rattle.raw_flow.proofs.Steps.{outs_rest, outs_last, out_chunk, at_next, too_long, at_last}
 use Rattle.raw_flow.proofs.compiling.give_outs.Goals as goal
-use Rattle.raw_route.proofs.HaulParts.{GivingLaws}
 
 pub returns-in_err-give_out-clause-too_many : goal.returns-in_err-give_out-clause-too_many
 returns-in_err-give_out-clause-too_many c = λ held are e.
     let k = rw e at c.from_residual.ensures in
-    let laws : GivingLaws = record { none = c.law_giving.ensures.none; both = c.law_giving.ensures.both; more = c.law_giving.ensures.more; later = c.law_giving.ensures.later } in
     let flow = c.args.flow.now in
     let ports = c.args.ports.now in
     let i = c.loop-i.i in
@@ -22,12 +20,11 @@ returns-in_err-give_out-clause-too_many c = λ held are e.
     let within : i < length items = let a = c.loop-i-test.true in let b = c.len-i-end.ensures in let d = c.flow.inside.outs.ok.0 in omega arith in
     let there : slice_get flow.outs i ≡ Some v =
     subst (λ (xs : List ℕ). slice_get xs i ≡ Some v) (ap (λ (f : Dataflow). f.outs) c.flow.view_is) (slice_get-get_or items i v within ∙ ap (λ (x : ℕ). Some x) (sym c.index.ensures)) in
-    too_long laws flow (outs_rest flow ports) (outs_last flow ports) held c.args.programs.now c.loop-i.programs c.loop-i.places i at (out_chunk flow ports at.held i v there)
+    too_long c.law_giving.ensures flow (outs_rest flow ports) (outs_last flow ports) held c.args.programs.now c.loop-i.programs c.loop-i.places i at (out_chunk flow ports at.held i v there)
     (c.in_err-give_out.ensures.too_many at.held at.marked (ap (λ r. Err r) (sym k.1)))
 
 pub loop-i-preserved : goal.loop-i-preserved
 loop-i-preserved c =
-    let laws : GivingLaws = record { none = c.law_giving.ensures.none; both = c.law_giving.ensures.both; more = c.law_giving.ensures.more; later = c.law_giving.ensures.later } in
     let flow = c.args.flow.now in
     let ports = c.args.ports.now in
     let i = c.loop-i.i in
@@ -38,17 +35,16 @@ loop-i-preserved c =
     subst (λ (xs : List ℕ). slice_get xs i ≡ Some v) (ap (λ (f : Dataflow). f.outs) c.flow.view_is) (slice_get-get_or items i v within ∙ ap (λ (x : ℕ). Some x) (sym c.index.ensures)) in
     λ held are.
     let at = c.loop-i.invariant held are in
-    at_next laws flow (outs_rest flow ports) (outs_last flow ports) held c.args.programs.now c.loop-i.programs c.loop-i.places i at
+    at_next c.law_giving.ensures flow (outs_rest flow ports) (outs_last flow ports) held c.args.programs.now c.loop-i.programs c.loop-i.places i at
     (out_chunk flow ports at.held i v there) c.give_out.new.programs c.give_out.new.places (c.in_ok-give_out.ensures.given at.held at.marked)
 
 pub returns-clause-gives : goal.returns-clause-gives
 returns-clause-gives c = λ held are.
-    let laws : GivingLaws = record { none = c.law_giving.ensures.none; both = c.law_giving.ensures.both; more = c.law_giving.ensures.more; later = c.law_giving.ensures.later } in
     let flow = c.args.flow.now in
     let ports = c.args.ports.now in
     let i = c.loop-i.i in
     let at = c.loop-i.invariant held are in
     let past : length flow.outs ≤ i =
     let a = c.loop-i-test.false in let b = c.len-i-end.ensures in let d = c.flow.inside.outs.ok.0 in let e = ap (λ (f : Dataflow). length f.outs) c.flow.view_is in omega arith in
-    (at_last laws flow (outs_rest flow ports) (outs_last flow ports) held c.args.programs.now c.loop-i.programs c.loop-i.places i at
+    (at_last c.law_giving.ensures flow (outs_rest flow ports) (outs_last flow ports) held c.args.programs.now c.loop-i.programs c.loop-i.places i at
     (ap (outs_from flow ports at.held i) (drop_past flow.outs i past)) (ap (held_outs flow ports at.held i) (drop_past flow.outs i past))).gives

@@ -6,10 +6,10 @@ use Rattle.raw_flow.specs.Compiled.{tiles_in, inputs_from, nodes_from, first_hel
 use Rattle.raw_flow.proofs.Sets.{all_given, inputs_long, nodes_long, outs_long}
 use Rattle.raw_flow.proofs.compiling.programs.Goals as goal
 use Rattle.raw_flow.proofs.compiling.programs.Goals.{After-give_inputs, After-give_nodes, After-give_outs, After-finish}
-use Rattle.raw_route.proofs.HaulParts.{GivingLaws}
+use Rattle.raw_codegen.specs.Laws.{GivingLaws}
 
 laws : (c : After-give_inputs) → GivingLaws
-laws c = record { none = c.law_giving.ensures.none; both = c.law_giving.ensures.both; more = c.law_giving.ensures.more; later = c.law_giving.ensures.later }
+laws c = c.law_giving.ensures
 
 -- the programs with which it begins
 first : (c : After-give_inputs) → c.in_ok-programs.programs ≡ programs_of (tiles_in c.args.flow.now) []

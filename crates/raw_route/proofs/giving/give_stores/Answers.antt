@@ -8,7 +8,7 @@ use Rattle.raw_codegen.specs.Rows.{register_of, store_ins}
 use Rattle.raw_route.specs.Hauls.{Haulage}
 use Rattle.raw_route.specs.Planned.{Sending, store_part}
 use Rattle.raw_route.specs.Counts.{AreCounts}
-use Rattle.raw_route.proofs.HaulParts.{GivingLaws, no_targets, count_is, counts_more, stores_more, stores_full, tiles_are}
+use Rattle.raw_route.proofs.HaulParts.{no_targets, count_is, counts_more, stores_more, stores_full, tiles_are}
 use Rattle.raw_route.proofs.giving.give_stores.Goals as goal
 
 pub loop-i-init : goal.loop-i-init
@@ -35,7 +35,6 @@ returns-then-count-ge-MAX_SWITCH_CODE-clause-too_many c = λ n earlier are e.
 pub returns-in_err-give_store-clause-too_many : goal.returns-in_err-give_store-clause-too_many
 returns-in_err-give_store-clause-too_many c = λ n earlier are e.
     let k = rw e at c.from_residual.ensures in
-    let laws : GivingLaws = record { none = c.law_giving.ensures.none; both = c.law_giving.ensures.both; more = c.law_giving.ensures.more; later = c.law_giving.ensures.later } in
     let tile = c.index-tile.result.now in
     let count = c.index-count.result.now in
     let haul = c.args.haul.now in
@@ -48,12 +47,11 @@ returns-in_err-give_store-clause-too_many c = λ n earlier are e.
     let full : Overflows n (ToTile tile (store_ins (register_of haul.net) count) ∷ []) c.loop-i.programs =
     subst (λ (net : Net). Overflows n (ToTile tile (store_ins (register_of net) count) ∷ []) c.loop-i.programs) (ap (λ (h : Haulage). h.net) c.haul.view_is)
     (c.in_err-give_store.ensures.too_many n (ap (λ r. Err r) (sym k.1))) in
-    inl (stores_full n c.loop-i.counts.items earlier haul 0 c.loop-i.i tile c.requires.distinct inside is within (c.loop-i.invariant.counted n earlier 0 are) laws
+    inl (stores_full n c.loop-i.counts.items earlier haul 0 c.loop-i.i tile c.requires.distinct inside is within (c.loop-i.invariant.counted n earlier 0 are) c.law_giving.ensures
     c.args.programs.now c.loop-i.programs (c.loop-i.invariant.gives n earlier are) count c.index-count.ensures full)
 
 pub loop-i-preserved : goal.loop-i-preserved
 loop-i-preserved c =
-    let laws : GivingLaws = record { none = c.law_giving.ensures.none; both = c.law_giving.ensures.both; more = c.law_giving.ensures.more; later = c.law_giving.ensures.later } in
     let tile = c.index-tile.result.now in
     let count = c.index-count.result.now in
     let haul = c.args.haul.now in
@@ -66,7 +64,7 @@ loop-i-preserved c =
     record {
       counts_many = length-set c.loop-i.counts.items tile (count + 1) ∙ c.loop-i.invariant.counts_many;
       gives = λ n earlier are.
-          stores_more n c.loop-i.counts.items earlier haul 0 c.loop-i.i tile c.requires.distinct inside is (within n earlier are) (c.loop-i.invariant.counted n earlier 0 are) laws
+          stores_more n c.loop-i.counts.items earlier haul 0 c.loop-i.i tile c.requires.distinct inside is (within n earlier are) (c.loop-i.invariant.counted n earlier 0 are) c.law_giving.ensures
           c.args.programs.now c.loop-i.programs (c.loop-i.invariant.gives n earlier are) count c.give_store.new.programs c.index-count.ensures
           (subst (λ (net : Net). Gives n (ToTile tile (store_ins (register_of net) count) ∷ []) c.loop-i.programs c.give_store.new.programs) (ap (λ (h : Haulage). h.net) c.haul.view_is) (c.in_ok-give_store.ensures.gives n));
       counted = λ n earlier word are.

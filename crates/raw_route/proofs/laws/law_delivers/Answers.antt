@@ -1,21 +1,12 @@
 use Rattle.raw_route.proofs.Delivering.{delivered}
-use Rattle.raw_route.proofs.Given.{PartsGive, TreeLaws, Laws}
+use Rattle.raw_route.proofs.Given.{TreeLaws, Laws}
 use Rattle.raw_route.proofs.laws.law_delivers.Goals as goal
 
 pub returns : goal.returns
 returns c =
-    let give : PartsGive = record {
-      tile_append = c.law_parts.ensures.tile_append;
-      switch_append = c.law_parts.ensures.switch_append;
-      block = c.law_parts.ensures.block;
-      block_elsewhere = c.law_parts.ensures.block_elsewhere;
-      block_switch = c.law_parts.ensures.block_switch;
-      switches = c.law_parts.ensures.switches;
-      switches_tile = c.law_parts.ensures.switches_tile;
-    } in
     let tree : TreeLaws = record {
       end_fits = c.law_fits.ensures.end_fits;
-      parts = give;
+      parts = c.law_parts.ensures;
       switch_is = c.law_scripts.ensures.switch_code;
       few_switch = c.law_scripts.ensures.few_switch;
     } in

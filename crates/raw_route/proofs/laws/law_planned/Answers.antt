@@ -1,24 +1,14 @@
 use Rattle.std.proofs.Common.{◌*◌}
 use Rattle.std.proofs.lemmas.List.Elements.{recursion_from_All}
 use Rattle.raw_route.specs.Planned.{IsSending, plan_parts, planned}
-use Rattle.raw_route.proofs.Given.{PartsGive}
 use Rattle.raw_route.proofs.PlannedSets.{PartsLaws, planned_is_set}
 use Rattle.raw_route.proofs.laws.law_planned.Goals as goal
 
 pub returns : goal.returns
 unfolding planned plan_parts
 returns c = λ cols rows xs size oks short.
-    let give : PartsGive = record {
-      tile_append = c.law_parts.ensures.tile_append;
-      switch_append = c.law_parts.ensures.switch_append;
-      block = c.law_parts.ensures.block;
-      block_elsewhere = c.law_parts.ensures.block_elsewhere;
-      block_switch = c.law_parts.ensures.block_switch;
-      switches = c.law_parts.ensures.switches;
-      switches_tile = c.law_parts.ensures.switches_tile;
-    } in
     let laws : PartsLaws = record {
-      give = give;
+      give = c.law_parts.ensures;
       append = c.law_lawful_parts.ensures.append;
       block = c.law_lawful_parts.ensures.block;
       programs = c.law_lawful_parts.ensures.programs;

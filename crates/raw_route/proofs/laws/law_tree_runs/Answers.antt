@@ -1,21 +1,12 @@
-use Rattle.raw_route.proofs.Given.{PartsGive, TreeLaws}
+use Rattle.raw_route.proofs.Given.{TreeLaws}
 use Rattle.raw_route.proofs.TreeRuns.{tree_runs}
 use Rattle.raw_route.proofs.laws.law_tree_runs.Goals as goal
 
 pub returns : goal.returns
 returns c = λ set all parts rest memories haul x s script is old e alone.
-    let give : PartsGive = record {
-      tile_append = c.law_parts.ensures.tile_append;
-      switch_append = c.law_parts.ensures.switch_append;
-      block = c.law_parts.ensures.block;
-      block_elsewhere = c.law_parts.ensures.block_elsewhere;
-      block_switch = c.law_parts.ensures.block_switch;
-      switches = c.law_parts.ensures.switches;
-      switches_tile = c.law_parts.ensures.switches_tile;
-    } in
     let laws : TreeLaws = record {
       end_fits = c.law_fits.ensures.end_fits;
-      parts = give;
+      parts = c.law_parts.ensures;
       switch_is = c.law_scripts.ensures.switch_code;
       few_switch = c.law_scripts.ensures.few_switch;
     } in

@@ -3,7 +3,6 @@ use Rattle.raw_route.specs.Hauls.{Haulage, IsHaul}
 use Rattle.raw_route.specs.Planned.{Sending, sendings}
 use Rattle.raw_route.specs.Counts.{AreCounts}
 use Rattle.raw_route.proofs.Faultless.{all_sendings}
-use Rattle.raw_route.proofs.Given.{PartsGive}
 use Rattle.raw_route.proofs.HaulParts.{tiles_are}
 use Rattle.raw_route.proofs.Plans.{haul_at, sendings_more, sendings_taken, programs_more, too_many, all_given}
 use Rattle.raw_route.proofs.planning.give_hauls.Goals as goal
@@ -20,15 +19,6 @@ give_haul-requires-clause-counts c =
 pub returns-in_err-give_haul-clause-too_many : goal.returns-in_err-give_haul-clause-too_many
 returns-in_err-give_haul-clause-too_many c = λ e.
     let k = rw e at c.from_residual.ensures in
-    let give : PartsGive = record {
-      tile_append = c.law_parts.ensures.tile_append;
-      switch_append = c.law_parts.ensures.switch_append;
-      block = c.law_parts.ensures.block;
-      block_elsewhere = c.law_parts.ensures.block_elsewhere;
-      block_switch = c.law_parts.ensures.block_switch;
-      switches = c.law_parts.ensures.switches;
-      switches_tile = c.law_parts.ensures.switches_tile;
-    } in
     let n = c.args.cols * c.args.rows in
     let i = c.loop-i.i in
     let hauls = c.args.hauls.now in
@@ -39,7 +29,7 @@ returns-in_err-give_haul-clause-too_many c = λ e.
     sendings_more hauls words i c.index-hauls-i.result c.requires.as_many c.loop-i-test.true
     ∙ ap (λ (h : Haulage). take i xs ++ record { haul = h; word = get_or words i 0 } ∷ []) (sym c.index-hauls-i.is) in
     let oks = all_sendings n 0 hauls words c.requires.lawful.faultless c.words_fit.ensures in
-    too_many give c.law_giving.ensures.longer c.law_giving.ensures.too_long c.args.cols c.args.rows c.requires.lawful.size xs oks i x c.loop-i.programs next c.loop-i.invariant.programs
+    too_many c.law_parts.ensures c.law_giving.ensures.longer c.law_giving.ensures.too_long c.args.cols c.args.rows c.requires.lawful.size xs oks i x c.loop-i.programs next c.loop-i.invariant.programs
     (c.in_err-give_haul.ensures.too_many (take i xs) c.loop-i.invariant.counts (ap (λ r. Err r) (sym k.1)))
 
 pub loop-i-preserved : goal.loop-i-preserved
