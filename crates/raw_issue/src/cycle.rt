@@ -70,7 +70,7 @@ impl Issue<'_> {
         self.send_outs()?;
         for tile in (0..self.task.part.tiles()).map(TileId) {
             self.take_turn(tile)?;
-            self.set_busy(tile, false);
+            self.tile_mut(tile).is_busy = false;
         }
         Ok(())
     }
@@ -82,7 +82,8 @@ impl Issue<'_> {
                 break;
             };
             if !self.task.needers.at(made.value).is_empty() {
-                self.add_send(made.tile, made.value)?;
+                let waiting = self.sending(made.value);
+                self.tile_mut(made.tile).sends.add(waiting)?;
             }
             self.came(made)?;
         }

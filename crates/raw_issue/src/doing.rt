@@ -1,7 +1,6 @@
 //! What a tile does.
 use crate::making::{Destination, Move, ReadyOperation};
 use crate::state::{Issue, OperandPlace};
-use crate::tile::ValuePlace;
 use raw_frame::{Arrival, Held, OutId, Rank, Register, TileId, TileSet, ValueId, Word};
 use raw_graph::Operand;
 use raw_grid::Net;
@@ -12,8 +11,7 @@ impl Issue<'_> {
     // Takes what an operand is from its network.
     fn take_source(&mut self, tile: TileId, source: OperandPlace) {
         if let OperandPlace::Network(net) = source {
-            let wire = self.wires.to_tile(tile, net);
-            self.wires.take(wire);
+            self.take(tile, net);
         }
     }
 
@@ -22,7 +20,7 @@ impl Issue<'_> {
         match operand {
             Operand::Value(value) => self.used(tile, value),
             Operand::Word(word) => {
-                self.constant_used(tile, word);
+                self.tile_mut(tile).constant_used(word);
                 Ok(())
             }
         }
@@ -85,12 +83,8 @@ impl Issue<'_> {
     fn put_in_register(&mut self, tile: TileId, value: ValueId) -> Result<Register, AllocError> {
         let register = self.free_register(tile, [None, None]);
         let to = register.unwrap_or(Register::ZERO);
-        self.hold(tile, to, Held::Value(value));
-        let local = ValuePlace {
-            register,
-            ..self.local(tile, value)
-        };
-        self.set_local(tile, value, local);
+        self.tile_mut(tile).registers.put(to, Held::Value(value));
+        self.set_register(tile, value, register);
         self.made.push(Arrival { tile, value })?;
         Ok(to)
     }
@@ -145,7 +139,8 @@ impl Issue<'_> {
         let word = self.word_of(value);
         let wire = self.wires.from_tile(tile, net);
         self.wires.send(wire, word);
-        self.set_sent(tile, value);
+        let waiting = self.sending(value);
+        self.tile_mut(tile).sends.remove(waiting);
         self.used(tile, value)?;
         Ok(true)
     }

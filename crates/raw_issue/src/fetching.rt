@@ -1,7 +1,7 @@
 //! What has to be done before an operand can be read.
 use crate::finding::OperandFound;
 use crate::state::Issue;
-use crate::tile::{HalfConstant, ValuePlace};
+use crate::tile::HalfConstant;
 use raw_frame::{Held, Register, TileId, ValueId};
 use raw_grid::Net;
 use raw_selection::{Cell, copy, load, store};
@@ -22,8 +22,8 @@ impl Issue<'_> {
         false
     }
 
-    // Takes a word from a network.
-    fn take(&mut self, tile: TileId, net: Net) {
+    /// Takes a word from a network.
+    pub(crate) fn take(&mut self, tile: TileId, net: Net) {
         let wire = self.wires.to_tile(tile, net);
         self.wires.take(wire);
     }
@@ -35,36 +35,23 @@ impl Issue<'_> {
         net: Net,
         value: ValueId,
     ) -> Result<bool, AllocError> {
-        let Some(cell) = self.take_cell(tile) else {
+        let Some(cell) = self.tile_mut(tile).take_cell() else {
             return Ok(false);
         };
         self.take(tile, net);
         self.emit(tile, store(Register::of_network(net), cell))?;
-        let local = ValuePlace {
-            cell: Some(cell),
-            ..self.local(tile, value)
-        };
+        let mut local = self.local(tile, value);
+        local.cell = Some(cell);
         self.set_local(tile, value, local);
         Ok(true)
     }
 
-    // Receives a value into a register.
-    fn receive_to(
-        &mut self,
-        tile: TileId,
-        net: Net,
-        value: ValueId,
-        register: Register,
-    ) -> Result<bool, AllocError> {
-        self.take(tile, net);
-        self.emit(tile, copy(register, Register::of_network(net)))?;
-        self.hold(tile, register, Held::Value(value));
-        let local = ValuePlace {
-            register: Some(register),
-            ..self.local(tile, value)
-        };
-        self.set_local(tile, value, local);
-        Ok(true)
+    // From now on a register of a tile holds a value.
+    fn keep(&mut self, tile: TileId, value: ValueId, register: Register) {
+        self.tile_mut(tile)
+            .registers
+            .put(register, Held::Value(value));
+        self.set_register(tile, value, Some(register));
     }
 
     /// Receives the value at the front of a network. False where there is none, or no place for it.
@@ -81,16 +68,19 @@ impl Issue<'_> {
         let Some(value) = word.value else {
             return Ok(false);
         };
-        if self.room(tile) <= FEW
+        if self.tile(tile).registers.room() <= FEW
             && !self.is_urgent(tile, value)
             && self.receive_to_memory(tile, net, value)?
         {
             return Ok(true);
         }
-        match self.free_register(tile, [kept, None]) {
-            Some(register) => self.receive_to(tile, net, value, register),
-            None => self.receive_to_memory(tile, net, value),
-        }
+        let Some(register) = self.free_register(tile, [kept, None]) else {
+            return self.receive_to_memory(tile, net, value);
+        };
+        self.take(tile, net);
+        self.emit(tile, copy(register, Register::of_network(net)))?;
+        self.keep(tile, value, register);
+        Ok(true)
     }
 
     // Loads a value from its cell, or makes room for it.
@@ -105,12 +95,7 @@ impl Issue<'_> {
             return self.spill(tile, [kept, None]);
         };
         self.emit(tile, load(register, cell))?;
-        self.hold(tile, register, Held::Value(value));
-        let local = ValuePlace {
-            register: Some(register),
-            ..self.local(tile, value)
-        };
-        self.set_local(tile, value, local);
+        self.keep(tile, value, register);
         Ok(true)
     }
 
@@ -126,11 +111,12 @@ impl Issue<'_> {
         };
         let (first, second) = li(register.field(), word);
         self.emit(tile, first)?;
+        let at = self.tile_mut(tile);
         if second.is_some() {
-            self.hold(tile, register, Held::Half(word));
-            self.set_half(tile, Some(HalfConstant { register, word }));
+            at.registers.put(register, Held::Half(word));
+            at.half = Some(HalfConstant { register, word });
         } else {
-            self.hold(tile, register, Held::Word(word));
+            at.registers.put(register, Held::Word(word));
         }
         Ok(true)
     }
@@ -160,8 +146,9 @@ impl Issue<'_> {
         if let Some(second) = second {
             self.emit(tile, second)?;
         }
-        self.hold(tile, half.register, Held::Word(half.word));
-        self.set_half(tile, None);
+        let at = self.tile_mut(tile);
+        at.registers.put(half.register, Held::Word(half.word));
+        at.half = None;
         Ok(true)
     }
 }

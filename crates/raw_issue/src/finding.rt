@@ -73,7 +73,7 @@ impl Issue<'_> {
         if word == 0 {
             return OperandFound::At(Reading::register(Register::ZERO));
         }
-        match self.that_holds(tile, Held::Word(word)) {
+        match self.tile(tile).registers.that_holds(Held::Word(word)) {
             Some(register) => OperandFound::At(Reading::register(register)),
             None => OperandFound::Constant(word),
         }
@@ -114,7 +114,7 @@ impl Issue<'_> {
                 least = self.task.ranks.at(*user).min(least);
             }
         }
-        if self.is_sending(tile, value) {
+        if self.tile(tile).sends.has(self.sending(value)) {
             self.task.sends.at(value).min(least)
         } else {
             least

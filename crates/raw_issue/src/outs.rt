@@ -23,25 +23,23 @@ impl Issue<'_> {
 
     // Whether the next out can be sent in this cycle.
     fn can_send(&self, tile: TileId, out: Operand) -> bool {
-        let is_free = match self.tile(tile) {
-            Some(tile) => !tile.is_busy && tile.half.is_none(),
-            None => false,
-        };
-        is_free
+        let at = self.tile(tile);
+        !at.is_busy
+            && at.half.is_none()
             && self.wires.has_room(self.wires.from_tile(tile, Net::One))
             && self.is_here(tile, out)
     }
 
     // Sends a constant, or loads it first.
     fn send_word(&mut self, tile: TileId, word: u32) -> Result<bool, AllocError> {
-        let held = self.that_holds(tile, Held::Word(word));
+        let held = self.tile(tile).registers.that_holds(Held::Word(word));
         let (first, second) = li(NETWORK_1, word);
         match held {
             Some(register) => self.emit(tile, copy(TO_SINK, register))?,
             None if second.is_none() => self.emit(tile, first)?,
             None => return self.load_word(tile, word, None),
         }
-        self.constant_used(tile, word);
+        self.tile_mut(tile).constant_used(word);
         self.send_next_out(tile);
         Ok(true)
     }
@@ -54,8 +52,7 @@ impl Issue<'_> {
         if place > 0 || self.local(tile, value).uses != 1 {
             return self.receive(tile, net, None);
         }
-        let wire = self.wires.to_tile(tile, net);
-        self.wires.take(wire);
+        self.take(tile, net);
         self.emit(tile, copy(TO_SINK, Register::of_network(net)))?;
         self.used(tile, value)?;
         self.send_next_out(tile);
@@ -89,7 +86,7 @@ impl Issue<'_> {
             Operand::Word(word) => self.send_word(tile, word)?,
             Operand::Value(value) => self.send_kept(tile, value)?,
         };
-        self.set_busy(tile, has_acted);
+        self.tile_mut(tile).is_busy = has_acted;
         Ok(self.next_out != before)
     }
 

@@ -18,7 +18,7 @@ impl Issue<'_> {
         let mut most = Rank::FIRST;
         for number in Registers::NUMBERS {
             let register = Register(number);
-            if let Held::Value(value) = self.held(tile, register) {
+            if let Held::Value(value) = self.tile(tile).registers.at(register) {
                 let fits = !in_memory || self.local(tile, value).cell.is_some();
                 let need = self.need(tile, value);
                 if fits && !kept.contains(&Some(register)) && (need > most || best.is_none()) {
@@ -33,30 +33,21 @@ impl Issue<'_> {
     // A register whose value has a copy in memory.
     fn copied_register(&mut self, tile: TileId, kept: Kept) -> Option<Register> {
         let (register, value) = self.needed_last(tile, kept, true)?;
-        let local = ValuePlace {
-            register: None,
-            ..self.local(tile, value)
-        };
-        self.set_local(tile, value, local);
+        self.set_register(tile, value, None);
         Some(register)
-    }
-
-    // A register with a constant.
-    fn constant_register(&self, tile: TileId, kept: Kept) -> Option<Register> {
-        self.tile(tile)?.registers.with_word(kept)
     }
 
     /// A register that is free, or is made free by what can be loaded again: a constant, or a value with a copy in
     /// memory. Registers that are kept are no such ones.
     pub(crate) fn free_register(&mut self, tile: TileId, kept: Kept) -> Option<Register> {
-        if let Some(register) = self.that_holds(tile, Held::Nothing) {
+        if let Some(register) = self.tile(tile).registers.that_holds(Held::Nothing) {
             return Some(register);
         }
-        let register = match self.constant_register(tile, kept) {
+        let register = match self.tile(tile).registers.with_word(kept) {
             Some(register) => register,
             None => self.copied_register(tile, kept)?,
         };
-        self.hold(tile, register, Held::Nothing);
+        self.tile_mut(tile).registers.put(register, Held::Nothing);
         Some(register)
     }
 
@@ -65,17 +56,15 @@ impl Issue<'_> {
         let Some((register, value)) = self.needed_last(tile, kept, false) else {
             return Ok(false);
         };
-        let Some(cell) = self.take_cell(tile) else {
+        let Some(cell) = self.tile_mut(tile).take_cell() else {
             return Ok(false);
         };
         self.emit(tile, store(register, cell))?;
-        let local = ValuePlace {
-            register: None,
-            cell: Some(cell),
-            ..self.local(tile, value)
-        };
+        let mut local = self.local(tile, value);
+        local.register = None;
+        local.cell = Some(cell);
         self.set_local(tile, value, local);
-        self.hold(tile, register, Held::Nothing);
+        self.tile_mut(tile).registers.put(register, Held::Nothing);
         Ok(true)
     }
 
@@ -84,11 +73,12 @@ impl Issue<'_> {
         let mut local = self.local(tile, value);
         local.uses = local.uses.saturating_sub(1);
         if local.uses == 0 {
+            let at = self.tile_mut(tile);
             if let Some(register) = local.register {
-                self.hold(tile, register, Held::Nothing);
+                at.registers.put(register, Held::Nothing);
             }
             if let Some(cell) = local.cell {
-                self.free_cell(tile, cell)?;
+                at.free_cell(cell)?;
             }
             local = ValuePlace::NONE;
         }

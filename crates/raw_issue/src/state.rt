@@ -1,11 +1,10 @@
 //! The state of a run.
 use crate::task::Task;
-use crate::tile::{HalfConstant, Tile, ValuePlace};
-use raw_frame::{Arrival, Held, OutId, Register, Table, TileId, ValueId, Waiting, Wires};
+use crate::tile::{Tile, ValuePlace};
+use raw_frame::{Arrival, OutId, Register, Table, TileId, ValueId, Waiting, Wires};
 use raw_graph::Operand;
 use raw_grid::Net;
 use raw_model::TileProg;
-use raw_selection::Cell;
 use raw_tile_isa::TileIns;
 use std::alloc::{AllocError, Global};
 
@@ -15,6 +14,8 @@ pub(crate) struct Issue<'a> {
     pub(crate) task: Task<'a>,
     pub(crate) wires: Wires,
     tiles: Vec<Tile>,
+    /// What stands for the tiles past them.
+    other: Tile,
     pub(crate) programs: Vec<TileProg>,
     /// Where each value is at each tile.
     locals: Table<usize, ValuePlace>,
@@ -90,6 +91,7 @@ impl<'a> Issue<'a> {
             task,
             wires: Wires::new(alloc, part)?,
             tiles,
+            other: Tile::new(alloc),
             programs,
             locals: Table::new(alloc, count.saturating_mul(part.tiles()), ValuePlace::NONE)?,
             missing: Table::new(alloc, count, 0)?,
@@ -122,148 +124,46 @@ impl<'a> Issue<'a> {
         self.locals.put(place, local);
     }
 
+    /// From now on a value is in this register of a tile, or in none.
+    pub(crate) fn set_register(
+        &mut self,
+        tile: TileId,
+        value: ValueId,
+        register: Option<Register>,
+    ) {
+        let mut local = self.local(tile, value);
+        local.register = register;
+        self.set_local(tile, value, local);
+    }
+
     /// A tile.
-    pub(crate) fn tile(&self, tile: TileId) -> Option<&Tile> {
-        self.tiles.get(tile.0)
-    }
-
-    /// What a register of a tile holds.
-    pub(crate) fn held(&self, tile: TileId, register: Register) -> Held {
+    pub(crate) fn tile(&self, tile: TileId) -> &Tile {
         match self.tiles.get(tile.0) {
-            Some(tile) => tile.registers.at(register),
-            None => Held::Nothing,
+            Some(tile) => tile,
+            None => &self.other,
         }
     }
 
-    /// From now on a register of a tile holds this.
-    pub(crate) fn hold(&mut self, tile: TileId, register: Register, held: Held) {
-        if let Some(tile) = self.tiles.get_mut(tile.0) {
-            tile.registers.put(register, held);
+    /// The same, so that it can be changed.
+    pub(crate) fn tile_mut(&mut self, tile: TileId) -> &mut Tile {
+        match self.tiles.get_mut(tile.0) {
+            Some(tile) => tile,
+            None => &mut self.other,
         }
-    }
-
-    /// The register of a tile that holds this.
-    pub(crate) fn that_holds(&self, tile: TileId, held: Held) -> Option<Register> {
-        self.tiles.get(tile.0)?.registers.that_holds(held)
-    }
-
-    /// How many registers of a tile can take a value.
-    pub(crate) fn room(&self, tile: TileId) -> usize {
-        match self.tiles.get(tile.0) {
-            Some(tile) => tile.registers.room(),
-            None => 0,
-        }
-    }
-
-    /// A cell of a tile's memory that is free.
-    pub(crate) fn take_cell(&mut self, tile: TileId) -> Option<Cell> {
-        self.tiles.get_mut(tile.0)?.take_cell()
     }
 
     /// A value has been made.
     pub(crate) fn set_issued(&mut self, tile: TileId, value: ValueId) {
         self.issued.put(value, true);
         self.left = self.left.saturating_sub(1);
-        let waiting = Waiting {
-            rank: self.task.ranks.at(value),
-            value,
-        };
-        if let Some(tile) = self.tiles.get_mut(tile.0) {
-            tile.ready.remove(waiting);
-        }
-    }
-
-    // The operands of a value have come.
-    fn set_ready(&mut self, tile: TileId, value: ValueId) -> Result<(), AllocError> {
-        let waiting = Waiting {
-            rank: self.task.ranks.at(value),
-            value,
-        };
-        match self.tiles.get_mut(tile.0) {
-            Some(tile) => tile.ready.add(waiting),
-            None => Ok(()),
-        }
+        let rank = self.task.ranks.at(value);
+        self.tile_mut(tile).ready.remove(Waiting { rank, value });
     }
 
     /// A value on its way to others.
     pub(crate) fn sending(&self, value: ValueId) -> Waiting {
-        Waiting {
-            rank: self.task.sends.at(value),
-            value,
-        }
-    }
-
-    /// A value is to be sent by a tile.
-    pub(crate) fn add_send(&mut self, tile: TileId, value: ValueId) -> Result<(), AllocError> {
-        let waiting = self.sending(value);
-        match self.tiles.get_mut(tile.0) {
-            Some(tile) => tile.sends.add(waiting),
-            None => Ok(()),
-        }
-    }
-
-    /// A value has been sent by a tile.
-    pub(crate) fn set_sent(&mut self, tile: TileId, value: ValueId) {
-        let waiting = self.sending(value);
-        if let Some(tile) = self.tiles.get_mut(tile.0) {
-            tile.sends.remove(waiting);
-        }
-    }
-
-    /// Whether a tile is still to send a value.
-    pub(crate) fn is_sending(&self, tile: TileId, value: ValueId) -> bool {
-        match self.tiles.get(tile.0) {
-            Some(tile) => tile.sends.has(self.sending(value)),
-            None => false,
-        }
-    }
-
-    /// A constant has been used at a tile.
-    pub(crate) fn constant_used(&mut self, tile: TileId, word: u32) {
-        if let Some(tile) = self.tiles.get_mut(tile.0) {
-            tile.constant_used(word);
-        }
-    }
-
-    // A constant is needed at a tile; register 0 holds 0.
-    fn want(&mut self, tile: TileId, word: u32) -> Result<(), AllocError> {
-        if word == 0 {
-            return Ok(());
-        }
-        match self.tiles.get_mut(tile.0) {
-            Some(tile) => tile.want(word),
-            None => Ok(()),
-        }
-    }
-
-    /// Sets which half of a constant is to come at a tile.
-    pub(crate) fn set_half(&mut self, tile: TileId, half: Option<HalfConstant>) {
-        if let Some(tile) = self.tiles.get_mut(tile.0) {
-            tile.half = half;
-        }
-    }
-
-    /// Whether a tile has done something in this cycle.
-    pub(crate) fn is_busy(&self, tile: TileId) -> bool {
-        match self.tiles.get(tile.0) {
-            Some(tile) => tile.is_busy,
-            None => true,
-        }
-    }
-
-    /// Sets whether it has.
-    pub(crate) fn set_busy(&mut self, tile: TileId, is_busy: bool) {
-        if let Some(tile) = self.tiles.get_mut(tile.0) {
-            tile.is_busy = is_busy;
-        }
-    }
-
-    /// A cell of a tile is free again.
-    pub(crate) fn free_cell(&mut self, tile: TileId, cell: Cell) -> Result<(), AllocError> {
-        match self.tiles.get_mut(tile.0) {
-            Some(tile) => tile.free_cell(cell),
-            None => Ok(()),
-        }
+        let rank = self.task.sends.at(value);
+        Waiting { rank, value }
     }
 
     /// A tile executes an instruction.
@@ -319,10 +219,10 @@ impl<'a> Issue<'a> {
         let tile = self.task.homes.at(value);
         if let Some(step) = self.task.step(value) {
             if let (Operand::Word(word), Some(_)) = (step.first(), step.second()) {
-                self.want(tile, word)?;
+                self.tile_mut(tile).want(word)?;
             }
             if let Some(Operand::Word(word)) = step.second() {
-                self.want(tile, word)?;
+                self.tile_mut(tile).want(word)?;
             }
         }
         Ok(())
@@ -343,7 +243,7 @@ impl<'a> Issue<'a> {
     fn want_outs(&mut self) -> Result<(), AllocError> {
         for out in (0..self.task.graph.outs().len()).map(OutId) {
             if let Some(Operand::Word(word)) = self.task.out(out) {
-                self.want(TileId::CORNER, word)?;
+                self.tile_mut(TileId::CORNER).want(word)?;
             }
         }
         Ok(())
@@ -362,7 +262,8 @@ impl<'a> Issue<'a> {
         let missing = self.missing.at(value).saturating_sub(1);
         self.missing.put(value, missing);
         if missing == 0 {
-            self.set_ready(tile, value)?;
+            let rank = self.task.ranks.at(value);
+            self.tile_mut(tile).ready.add(Waiting { rank, value })?;
         }
         Ok(())
     }

@@ -97,9 +97,10 @@ impl Tile {
         self.constants.iter().position(|wanted| wanted.word == word)
     }
 
-    /// A constant is needed once more.
+    /// A constant is needed once more; register 0 holds 0.
     pub(crate) fn want(&mut self, word: u32) -> Result<(), AllocError> {
         match self.place_of(word) {
+            _ if word == 0 => {}
             Some(place) => {
                 if let Some(wanted) = self.constants.get_mut(place) {
                     wanted.uses = wanted.uses.saturating_add(1);

@@ -24,13 +24,13 @@ impl Issue<'_> {
 
     // The plan for the operation at a place of those that are ready.
     fn plan_at(&self, tile: TileId, place: usize) -> Option<(Rank, Option<Move>)> {
-        let waiting = self.tile(tile)?.ready.at(place)?;
+        let waiting = self.tile(tile).ready.at(place)?;
         Some((waiting.rank, self.plan(tile, waiting.value)))
     }
 
     // The best that a tile can do for an operation, with the rank of that.
     fn best_plan(&self, tile: TileId) -> Option<(Rank, Move)> {
-        let is_tight = self.room(tile) <= FEW;
+        let is_tight = self.tile(tile).registers.room() <= FEW;
         let looked_at = if is_tight {
             LOOKED_AT_IN_NEED
         } else {
@@ -53,9 +53,9 @@ impl Issue<'_> {
 
     // The value that a tile sends in place of what it could do at a rank.
     fn value_to_send(&self, tile: TileId, best: Option<(Rank, Move)>) -> Option<ValueId> {
-        let waiting = self.tile(tile)?.sends.at(0)?;
+        let waiting = self.tile(tile).sends.at(0)?;
         let is_first = match best {
-            Some((rank, _)) => waiting.rank <= rank || self.room(tile) <= FEW,
+            Some((rank, _)) => waiting.rank <= rank || self.tile(tile).registers.room() <= FEW,
             None => true,
         };
         if is_first { Some(waiting.value) } else { None }
@@ -115,14 +115,10 @@ impl Issue<'_> {
 
     /// A tile has its turn, unless it has sent an out.
     pub(crate) fn take_turn(&mut self, tile: TileId) -> Result<(), AllocError> {
-        if self.is_busy(tile) {
+        if self.tile(tile).is_busy {
             return Ok(());
         }
-        let half = match self.tile(tile) {
-            Some(tile) => tile.half,
-            None => None,
-        };
-        match half {
+        match self.tile(tile).half {
             Some(half) => self.finish_word(tile, half)?,
             None => self.act(tile)?,
         };
