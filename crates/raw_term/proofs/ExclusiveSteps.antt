@@ -1,9 +1,11 @@
 -- The walk down the marks, from one that stands to the next.
-use Rattle.std.proofs.Common.{◌≡◌, ℕ, zero, suc, ◌+◌, ◌*◌, ◌-◌, ◌<◌, ◌≤◌, Bool, true, false, cond, List, take, length, Option, Some, None, refl, sym, ap, ◌∙◌, ⊎_elim, arith}
+use Rattle.std.proofs.Common.{◌≡◌, ℕ, zero, suc, ◌+◌, ◌*◌, ◌-◌, ◌<◌, ◌≤◌, Bool, true, false, cond, List, take, length, Option, Some, None, unwrap_or, refl, sym, ap, ◌∙◌, subst, ⊎_elim, arith}
 use Rattle.std.specs.Prelude.{◌==◌, ◌^◌, ◌/◌, ◌%◌, bit_and, bit_xor, slice_get, slice_index}
 use Rattle.std.specs.Option.{option_map}
 use Rattle.std.proofs.lemmas.Bool.{cases_lt}
-use Rattle.std.proofs.lemmas.List.{get_or-take}
+use Rattle.std.proofs.lemmas.List.{get_or-take, get_or_past, length-take, length-take-le}
+use Rattle.std.proofs.Math.Nat.{min-le_left}
+use Rattle.std.proofs.Math.Seq.{take-length}
 use Rattle.raw_tile_isa.specs.Words.{word_shift_left, word_shift_right}
 use Rattle.raw_flow.specs.declared.node.FlowOp.{FlowOp}
 use Rattle.raw_flow.specs.declared.node.FlowOp.TheVariants.{Add, Sub, Mul, MulHigh, MulHighUnsigned, And, Or, Xor, Nor, Less, LessUnsigned, ShiftLeft, ShiftRight, ShiftRightSigned}
@@ -141,3 +143,19 @@ pub step : (nodes : List Node) (s t : Marks) (i x : ℕ) (o : Option Marks) (sam
     → t ≡ first i s → parted nodes x t i ≡ o → all_of (are_nothing nodes i) o ≡ same
 step nodes s t i x o same e l is none cut answers =
     ap (all_of (are_nothing nodes i)) (sym answers ∙ ap (λ y. parted nodes y t i) is ∙ ap (λ z. parted nodes (slice_index s.bits i) z i) cut) ∙ sym (last_parted nodes s i l none) ∙ e
+
+-- what gives way leaves no more places than there were
+pub no_longer : (nodes : List Node) (m : ℕ) (s t : Marks) (i : ℕ) → parted nodes m s i ≡ Some t → length t.bits ≤ length s.bits
+no_longer nodes m s t i e =
+    let k = length s.bits in
+    let whole : first k s ≡ s = ap (λ xs. record s { bits = xs }) (take-length s.bits) in
+    let same : length t.bits ≡ length (take k t.bits) =
+    ap (λ (o : Option Marks). length (unwrap_or o s).bits) (sym e ∙ ap (λ u. parted nodes m u i) (sym whole) ∙ parted_first k nodes m s i ∙ ap (option_map (first k)) e) in
+    subst (λ n. n ≤ k) (sym (same ∙ length-take k t.bits)) (min-le_left k (length t.bits))
+
+-- a step that leaves marks: they are walked from their own end
+pub walked : (nodes : List Node) (s t u : Marks) (i x : ℕ) (same : Bool) → are_nothing nodes (length s.bits) s ≡ same → i < length s.bits → x ≡ slice_index s.bits i → AreZeros (i + 1) s.bits
+    → t ≡ first i s → parted nodes x t i ≡ Some u → (are_nothing nodes (length u.bits) u ≡ same) × (length u.bits ≤ i)
+walked nodes s t u i x same e l is none cut answers =
+    let few : length u.bits ≤ i = omega (arith, no_longer nodes x t u i answers, ap (λ (v : Marks). length v.bits) cut, length-take-le i s.bits (omega (arith, l))) in
+    (sym (passed nodes i (length u.bits) u few (λ j past. get_or_past u.bits j 0 past)) ∙ step nodes s t i x (Some u) same e l is none cut answers, few)

@@ -56,8 +56,7 @@ impl Marked {
 
     // And some bits of a term after a move.
     fn and_mark(&mut self, bits: u32, by: u32, term: u32) -> Result<(), AllocError>
-        ensures value { OnOk result (self.new ≡ and_mark bits by term self.old) }
-        ensures long { OnOk result (length self.new.bits ≡ length self.old.bits) }
+        ensures { OnOk result (self.new ≡ and_mark bits by term self.old) }
     {
         let at = term as usize * MOVES + by as usize;
         let both = self.bits.at(at) ^ bits;
@@ -80,8 +79,7 @@ impl Marked {
         mask: u32,
         word: u32,
     ) -> Result<(), AllocError>
-        ensures value { OnOk result (self.new ≡ masked bits by term mask word self.old) }
-        ensures long { OnOk result (length self.new.bits ≡ length self.old.bits) }
+        ensures { OnOk result (self.new ≡ masked bits by term mask word self.old) }
     {
         self.and_word(bits, by, word);
         self.and_mark(bits & moved(by, mask), by, term)
@@ -91,8 +89,7 @@ impl Marked {
     fn left(&mut self, bits: u32, by: u32, term: u32, amount: u32) -> Result<(), AllocError>
         requires few { by < 63 }
         requires less { amount < 32 }
-        ensures value { OnOk result (self.new ≡ left bits by term amount self.old) }
-        ensures long { OnOk result (length self.new.bits ≡ length self.old.bits) }
+        ensures { OnOk result (self.new ≡ left bits by term amount self.old) }
     {
         let kept = bits & moved(by, word::shift_left(u32::MAX, amount));
         if kept == 0 {
@@ -110,8 +107,7 @@ impl Marked {
         amount: u32,
         mask: u32,
     ) -> Result<(), AllocError>
-        ensures value { OnOk result (self.new ≡ right bits by term amount mask self.old) }
-        ensures long { OnOk result (length self.new.bits ≡ length self.old.bits) }
+        ensures { OnOk result (self.new ≡ right bits by term amount mask self.old) }
     {
         let kept = bits & moved(by, mask);
         if kept == 0 {
@@ -122,16 +118,14 @@ impl Marked {
 
     // And a term shifted to the right, with zeros in.
     fn right_zeros(&mut self, bits: u32, by: u32, term: u32, amount: u32) -> Result<(), AllocError>
-        ensures value { OnOk result (self.new ≡ right_zeros bits by term amount self.old) }
-        ensures long { OnOk result (length self.new.bits ≡ length self.old.bits) }
+        ensures { OnOk result (self.new ≡ right_zeros bits by term amount self.old) }
     {
         self.right(bits, by, term, amount, word::shift_right(u32::MAX, amount))
     }
 
     // And the sign of a term, in so many of the highest bits.
     fn signs(&mut self, bits: u32, by: u32, term: u32, amount: u32) -> Result<(), AllocError>
-        ensures value { OnOk result (self.new ≡ signs bits by term amount self.old) }
-        ensures long { OnOk result (length self.new.bits ≡ length self.old.bits) }
+        ensures { OnOk result (self.new ≡ signs bits by term amount self.old) }
     {
         for k in 0..amount {
             self.right(bits, by, term, k, word::shift_right(HIGHEST, k))?;
@@ -149,8 +143,7 @@ impl Marked {
         word: u32,
     ) -> Result<bool, AllocError>
         requires few { by < 63 }
-        ensures parts { IfOk result (λ is. by_word bits by op term word self.old ≡ if is then Some self.new else None) }
-        ensures long { OnOk result (length self.new.bits ≡ length self.old.bits) }
+        ensures { IfOk result (λ is. by_word bits by op term word self.old ≡ if is then Some self.new else None) }
     {
         match op {
             FlowOp::And => self.masked(bits, by, term, word, 0)?,
@@ -171,8 +164,7 @@ impl Marked {
     // And some bits of a node after a move; false where it is another operation.
     fn mark(&mut self, nodes: &[Node], bits: u32, by: u32, node: Node) -> Result<bool, AllocError>
         requires few { by < 63 }
-        ensures parts { IfOk result (λ is. marked nodes.now bits by self.old (Some node) ≡ if is then Some self.new else None) }
-        ensures long { OnOk result (length self.new.bits ≡ length self.old.bits) }
+        ensures { IfOk result (λ is. marked nodes.now bits by self.old (Some node) ≡ if is then Some self.new else None) }
     {
         match node {
             Node::Input => Ok(false),
@@ -210,8 +202,7 @@ impl Marked {
     // And the marks that those at a place give way to; false where they stand at another operation.
     fn parted(&mut self, nodes: &[Node], bits: u32, i: usize) -> Result<bool, AllocError>
         requires { i / 63 < length nodes.now }
-        ensures parts { IfOk result (λ is. parted nodes.now bits self.old i ≡ if is then Some self.new else None) }
-        ensures long { OnOk result (length self.new.bits ≡ length self.old.bits) }
+        ensures { IfOk result (λ is. parted nodes.now bits self.old i ≡ if is then Some self.new else None) }
     {
         if bits == 0 {
             return Ok(true);
