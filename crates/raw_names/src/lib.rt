@@ -7,4 +7,5 @@ mod lines;
 mod names;
 mod writing;
 
+pub use names::push_processor_name;
 pub use writing::write_names;

@@ -7,8 +7,8 @@ ghost use Rattle.raw_names.specs.Names.{port_name, processor_name, end_at, is_sw
 use raw_grid::{End, OtherEnd, PortPlace, ProcId, Topo};
 use raw_state_text::{LINE_SIZE, Line};
 
-/// Appends what a port is and where it stands.
-pub(crate) fn push_port_name(line: &mut Line, place: PortPlace)
+// Appends what a port is and where it stands.
+fn push_port_name(line: &mut Line, place: PortPlace)
     requires { length line.old + 52 ≤ LINE_SIZE }
     ensures text { line.new ≡ line.old ++ port_name place }
     ensures len { length line.new ≤ length line.old + 52 }
@@ -18,9 +18,9 @@ pub(crate) fn push_port_name(line: &mut Line, place: PortPlace)
     line.push_port_place(place);
 }
 
-/// Appends what a processor is and where it stands.
+/// Appends what a processor is and where it stands: at most 52 bytes.
 #[tactic(auto, unfolding(crate::specs::Names::processor_name))]
-pub(crate) fn push_processor_name(line: &mut Line, topo: &Topo, p: ProcId)
+pub fn push_processor_name(line: &mut Line, topo: &Topo, p: ProcId)
     requires room { length line.old + 52 ≤ LINE_SIZE }
     requires there { p.0 < proc_count topo.now }
     ensures text { line.new ≡ line.old ++ processor_name topo.now p.0 }

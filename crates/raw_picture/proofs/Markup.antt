@@ -1,5 +1,5 @@
 -- The whole text of a picture is made of its fixed pieces of markup and of texts without markup.
-use Rattle.std.proofs.Common.{◌≡◌, ℕ, zero, suc, ◌+◌, ◌-◌, ◌/◌, ◌%◌, Bool, true, false, ◌||◌, List, [], ◌∷◌, ◌++◌, codes, length, take, Option, Some, None, refl, ap, ◌∙◌, inl, inr, append-nil}
+use Rattle.std.proofs.Common.{◌≡◌, ℕ, zero, suc, ◌+◌, ◌-◌, ◌*◌, ◌/◌, ◌%◌, Bool, true, false, ◌||◌, List, [], ◌∷◌, ◌++◌, codes, length, take, Option, Some, None, refl, ap, ◌∙◌, inl, inr, append-nil}
 use Rattle.std.specs.Prelude.{decimal, nat_lt, slice_get, if◌then◌else◌}
 use Rattle.std.specs.List.{list_all, list_any, flat_map, range_with_len, position, AllByRecursion}
 use Rattle.std.proofs.lemmas.List.Folds.{list_any-append}
@@ -11,6 +11,7 @@ use Rattle.raw_grid.specs.declared.parts.Net.TheVariants.{One, Two}
 use Rattle.raw_grid.specs.declared.parts.Side.{Side}
 use Rattle.raw_grid.specs.declared.parts.Side.TheVariants.{N, E, S, W}
 use Rattle.raw_grid.specs.declared.parts.PortPlace.{PortPlace}
+use Rattle.raw_grid.specs.Names.{net_number}
 use Rattle.raw_grid.specs.Topology.{Topology, tile_count}
 use Rattle.raw_model.specs.Program.{ProgramSet}
 use Rattle.raw_model.specs.Start.{MachineState}
@@ -19,6 +20,7 @@ use Rattle.raw_model.specs.Outcomes.{outcome}
 use Rattle.raw_model.specs.Texts.{words_text}
 use Rattle.raw_model.specs.StateTexts.{outcome_word}
 use Rattle.raw_model.specs.Waits.{first_wait}
+use Rattle.raw_names.specs.Names.{processor_name}
 use Rattle.raw_picture.specs.declared.course.Point.{Point}
 use Rattle.raw_picture.specs.declared.course.Course.{Course}
 use Rattle.raw_picture.specs.declared.frame.Frame.{Frame}
@@ -34,14 +36,14 @@ use Rattle.raw_picture.specs.Places.{along, cell, corner_at, port_lane, wait_cou
 use Rattle.raw_picture.specs.declared.layout.TheConstants.{BOX_HEIGHT, CHANNEL, DOWN_LEFT, LONG, MIDDLE, PORT_HEIGHT, PORT_WIDTH, SHORT, SOUTH_LEFT, SWITCH_BOTTOM, SWITCH_RIGHT, SWITCH_TOP, SWITCH_WIDTH, TILE_WIDTH}
 use Rattle.raw_picture.specs.Forms.{in_turn, rect, text_head, text_end, text, turned, title, group_start, group_end, stroke, arrow, number, tag_box_by, tag_box, tag_text_by, tag_text, labelled}
 use Rattle.raw_picture.specs.Frame.{frame_of, width, height}
-use Rattle.raw_picture.specs.Names.{name, wait_text, first_word, up_to, is_blank, shown_mark, no_code, no_switch_code}
+use Rattle.raw_picture.specs.Names.{wait_text, first_word, up_to, is_blank, shown_mark, no_code, no_switch_code}
 use Rattle.raw_picture.specs.Told.{say, told_in, is_told, shape_of, segment, lead, wait_piece, wait_told, waits_told, all_waits, description, path_start, path_by, path}
 use Rattle.raw_picture.specs.Style.{style}
 use Rattle.raw_picture.specs.Opening.{size_text, title_text, svg_start, opening, set_text, head, front}
-use Rattle.raw_picture.specs.Ground.{cell_ground, east_ground, south_ground, link_ground, lane_ground_at, lane_ground}
+use Rattle.raw_picture.specs.Ground.{cell_ground, neighbour_ground, link_ground, lane_ground_at, lane_ground}
 use Rattle.raw_picture.specs.Boxes.{port_corner, switch_corner, box_class, progress_of, box_title, box_with, box_of, boxes, port_title, port_text, port_texts, port_box_with, port_box}
 use Rattle.raw_picture.specs.Flows.{arrow_class, number_class, wire_text, wire_group, wire_with, wire_drawn, wire_tag, wait_arrow, wait_group, wait_with, wait_drawn}
-use Rattle.raw_picture.specs.Legend.{legend_course, legend_text, wire_rows, wait_rows, legend}
+use Rattle.raw_picture.specs.Legend.{legend_course, legend_text, wire_meaning, wire_row, wait_rows, legend}
 use Rattle.raw_picture.specs.Picture.{of_port, piece, size, layer_text, ground, figures, picture_of, picture}
 use Rattle.raw_picture.proofs.Plain.{first, second, differs, plain_number, plain_words, plain_labelled, plain_name, plain_wait, plain_mark, plain_shown, plain_word_of, plain_say, plain_all_waits, plain_title, plain_set, plain_box, plain_port_title, plain_port_text, plain_wire}
 
@@ -141,22 +143,22 @@ rect_made class x y wide high radius none =
 head_made : (class : List ℕ) (x y : ℕ) → HasNoMarkup class → HasOnlyItsMarkup (text_head class x y)
 unfolding text_head markup
 head_made class x y none =
-    made (codes "<text class=\"" ∷ class ∷ codes "\" x=\"" ∷ decimal x ∷ codes "\" y=\"" ∷ decimal y ∷ codes "\">" ∷ [])
+    made (codes "<text class=\"" ∷ class ∷ codes "\" x=\"" ∷ decimal x ∷ codes "\" y=\"" ∷ decimal y ∷ [])
     (next (inl (7, refl)) (next (inr none) (next (inl (1, refl)) (next (inr (number_said x))
-    (next (inl (2, refl)) (next (inr (number_said y)) (next (inl (8, refl)) tt)))))))
+    (next (inl (2, refl)) (next (inr (number_said y)) tt))))))
 
 text_made : (class : List ℕ) (x y : ℕ) (shown : List ℕ) → HasNoMarkup class → HasNoMarkup shown → HasOnlyItsMarkup (text class x y shown)
 unfolding text markup
 text_made class x y shown none is =
-    made_from (text_head class x y) (shown ∷ text_end ∷ []) (head_made class x y none) (next (inr is) (next (inl (9, refl)) tt))
+    made_from (text_head class x y) (codes "\">" ∷ shown ∷ text_end ∷ []) (head_made class x y none) (next (inl (8, refl)) (next (inr is) (next (inl (9, refl)) tt)))
 
-turned_made : (class : List ℕ) (x y : ℕ) (shown : List ℕ) → HasNoMarkup class → HasNoMarkup shown → HasOnlyItsMarkup (turned class x y shown)
+turned_made : (x y : ℕ) (shown : List ℕ) → HasNoMarkup shown → HasOnlyItsMarkup (turned x y shown)
 unfolding turned markup
-turned_made class x y shown none is =
-    made (codes "<text class=\"" ∷ class ∷ codes "\" x=\"" ∷ decimal x ∷ codes "\" y=\"" ∷ decimal y ∷ codes "\" transform=\"rotate(-90 " ∷ decimal x ∷ codes " " ∷ decimal y ∷ codes ")\">" ∷ shown ∷ text_end ∷ [])
-    (next (inl (7, refl)) (next (inr none) (next (inl (1, refl)) (next (inr (number_said x))
-    (next (inl (2, refl)) (next (inr (number_said y)) (next (inl (10, refl)) (next (inr (number_said x))
-    (next (inr refl) (next (inr (number_said y)) (next (inl (11, refl)) (next (inr is) (next (inl (9, refl)) tt)))))))))))))
+turned_made x y shown is =
+    made_from (text_head (codes "tagged mid") x y) (codes "\" transform=\"rotate(-90 " ∷ decimal x ∷ codes " " ∷ decimal y ∷ codes ")\">" ∷ shown ∷ text_end ∷ [])
+    (head_made (codes "tagged mid") x y refl)
+    (next (inl (10, refl)) (next (inr (number_said x))
+    (next (inr refl) (next (inr (number_said y)) (next (inl (11, refl)) (next (inr is) (next (inl (9, refl)) tt)))))))
 
 title_made : (shown : List ℕ) → HasNoMarkup shown → HasOnlyItsMarkup (title shown)
 unfolding title markup
@@ -204,8 +206,8 @@ tag_box_made course = tag_box_made_by course.way (along course MIDDLE).x (along 
 tag_text_made_by : (way : Side) (x y : ℕ) (shown : List ℕ) → HasNoMarkup shown → HasOnlyItsMarkup (tag_text_by way x y shown)
 tag_text_made_by E x y shown is = text_made (codes "tagged mid") x (y + 4) shown refl is
 tag_text_made_by W x y shown is = text_made (codes "tagged mid") x (y + 4) shown refl is
-tag_text_made_by N x y shown is = turned_made (codes "tagged mid") (x + 4) y shown refl is
-tag_text_made_by S x y shown is = turned_made (codes "tagged mid") (x + 4) y shown refl is
+tag_text_made_by N x y shown is = turned_made (x + 4) y shown is
+tag_text_made_by S x y shown is = turned_made (x + 4) y shown is
 
 tag_text_made : (course : Course) (shown : List ℕ) → HasNoMarkup shown → HasOnlyItsMarkup (tag_text course shown)
 unfolding tag_text
@@ -280,27 +282,18 @@ cell_made : (topo : Topology) (t : ℕ) → HasOnlyItsMarkup (cell_ground topo t
 unfolding cell_ground
 cell_made topo t = rect_made (codes "cell") _ _ _ _ _ refl
 
-east_made : (topo : Topology) (t : ℕ) → HasOnlyItsMarkup (east_ground topo t)
-unfolding east_ground
-east_made topo t =
-    let x = (cell topo t).x + SWITCH_RIGHT in
-    let y = (cell topo t).y + SWITCH_TOP in
-    either (nat_lt (t % topo.cols + 1) topo.cols) (rect (codes "link") x y SHORT CHANNEL 0) [] (link_made x y SHORT CHANNEL) none_made
-
-south_made : (topo : Topology) (t : ℕ) → HasOnlyItsMarkup (south_ground topo t)
-unfolding south_ground
-south_made topo t =
-    let x = (cell topo t).x + SOUTH_LEFT in
-    let y = (cell topo t).y + SWITCH_BOTTOM in
-    either (nat_lt (t / topo.cols + 1) topo.rows) (rect (codes "link") x y CHANNEL LONG 0) [] (link_made x y CHANNEL LONG) none_made
+neighbour_made : (there : Bool) (x y wide high : ℕ) → HasOnlyItsMarkup (neighbour_ground there x y wide high)
+neighbour_made there x y wide high = either there (rect (codes "link") x y wide high 0) [] (link_made x y wide high) none_made
 
 links_made : (topo : Topology) (t : ℕ) → HasOnlyItsMarkup (link_ground topo t)
 unfolding link_ground
 links_made topo t =
-    let x = (cell topo t).x + DOWN_LEFT in
-    let y = (cell topo t).y + BOX_HEIGHT in
-    both (rect (codes "link") x y CHANNEL SHORT 0 ++ east_ground topo t) (south_ground topo t)
-    (both (rect (codes "link") x y CHANNEL SHORT 0) (east_ground topo t) (link_made x y CHANNEL SHORT) (east_made topo t)) (south_made topo t)
+    let c = cell topo t in
+    let own = rect (codes "link") (c.x + DOWN_LEFT) (c.y + BOX_HEIGHT) CHANNEL SHORT 0 in
+    let east = neighbour_ground (nat_lt (t % topo.cols + 1) topo.cols) (c.x + SWITCH_RIGHT) (c.y + SWITCH_TOP) SHORT CHANNEL in
+    let south = neighbour_ground (nat_lt (t / topo.cols + 1) topo.rows) (c.x + SOUTH_LEFT) (c.y + SWITCH_BOTTOM) CHANNEL LONG in
+    both (own ++ east) south
+    (both own east (link_made _ _ CHANNEL SHORT) (neighbour_made _ _ _ SHORT CHANNEL)) (neighbour_made _ _ _ CHANNEL LONG)
 
 lane_made_at : (side : Side) (c : Point) (k : ℕ) → HasOnlyItsMarkup (lane_ground_at side c k)
 lane_made_at W c k = link_made _ _ _ _
@@ -374,7 +367,7 @@ box_with_made topo p at wide mark on far is =
     together (group_start
     ∷ title (box_title topo p mark far)
     ∷ rect (box_class mark on) at.x at.y wide BOX_HEIGHT 4
-    ∷ text (codes "name") (at.x + 8) (at.y + 20) (name topo p)
+    ∷ text (codes "name") (at.x + 8) (at.y + 20) (processor_name topo p)
     ∷ text (codes "soft end") (at.x + wide - 8) (at.y + 20) (labelled (codes "#") p)
     ∷ text (codes "mark") (at.x + 8) (at.y + 39) mark
     ∷ text (codes "plain") (at.x + 8) (at.y + 57) (labelled (codes "count ") far.count)
@@ -384,7 +377,7 @@ box_with_made topo p at wide mark on far is =
     (next start_made
     (next (title_made (box_title topo p mark far) (said (box_title topo p mark far) (plain_box topo p mark far is)))
     (next (rect_made (box_class mark on) _ _ _ _ _ (class_said mark on none))
-    (next (text_made (codes "name") _ _ (name topo p) refl (said (name topo p) (plain_name topo p)))
+    (next (text_made (codes "name") _ _ (processor_name topo p) refl (said (processor_name topo p) (plain_name topo p)))
     (next (text_made (codes "soft end") _ _ (labelled (codes "#") p) refl (labelled_said (codes "#") p refl))
     (next (text_made (codes "mark") _ _ mark refl none)
     (next (text_made (codes "plain") _ _ (labelled (codes "count ") far.count) refl (labelled_said (codes "count ") far.count refl))
@@ -505,22 +498,21 @@ legend_line_made : (f : Frame) (track : ℕ) (shown : List ℕ) → HasNoMarkup 
 unfolding legend_text
 legend_line_made f track shown is = text_made (codes "soft") _ _ shown refl is
 
-wire_rows_made : (f : Frame) → HasOnlyItsMarkup (wire_rows f)
-unfolding wire_rows
-wire_rows_made f =
-    together (arrow (codes "n1") (legend_course f 0) 15
-    ∷ number (codes "t1 mid") (legend_course f 0) (codes "3")
-    ∷ legend_text f 0 (codes "a wire of network 1 that holds 3 values")
-    ∷ arrow (codes "n2") (legend_course f 20) 15
-    ∷ number (codes "t2 mid") (legend_course f 20) (codes "3")
-    ∷ legend_text f 20 (codes "a wire of network 2 that holds 3 values")
+wire_meaning_said : (net : Net) → HasNoMarkup (wire_meaning net)
+wire_meaning_said One = refl
+wire_meaning_said Two = refl
+
+wire_row_made : (f : Frame) (net : Net) → HasOnlyItsMarkup (wire_row f net)
+unfolding wire_row
+wire_row_made f net =
+    let track = 20 * (net_number net - 1) in
+    together (arrow (arrow_class net) (legend_course f track) 15
+    ∷ number (number_class net) (legend_course f track) (codes "3")
+    ∷ legend_text f track (wire_meaning net)
     ∷ [])
-    (next (arrow_made (codes "n1") (legend_course f 0) 15 refl)
-    (next (number_made (codes "t1 mid") (legend_course f 0) (codes "3") refl refl)
-    (next (legend_line_made f 0 (codes "a wire of network 1 that holds 3 values") refl)
-    (next (arrow_made (codes "n2") (legend_course f 20) 15 refl)
-    (next (number_made (codes "t2 mid") (legend_course f 20) (codes "3") refl refl)
-    (next (legend_line_made f 20 (codes "a wire of network 2 that holds 3 values") refl) tt))))))
+    (next (arrow_made (arrow_class net) (legend_course f track) 15 (arrow_class_said net))
+    (next (number_made (number_class net) (legend_course f track) (codes "3") (number_class_said net) refl)
+    (next (legend_line_made f track (wire_meaning net) (wire_meaning_said net)) tt)))
 
 wait_rows_made : (f : Frame) → HasOnlyItsMarkup (wait_rows f)
 unfolding wait_rows
@@ -545,7 +537,10 @@ end_tag_made = one (codes "</svg>\n") (inl (27, refl))
 legend_made : (f : Frame) → HasOnlyItsMarkup (legend f)
 unfolding legend
 legend_made f =
-    both (wire_rows f ++ wait_rows f) (codes "</svg>\n") (both (wire_rows f) (wait_rows f) (wire_rows_made f) (wait_rows_made f)) end_tag_made
+    let wires = wire_row f One ++ wire_row f Two in
+    both (wires ++ wait_rows f) (codes "</svg>\n")
+    (both wires (wait_rows f) (both (wire_row f One) (wire_row f Two) (wire_row_made f One) (wire_row_made f Two)) (wait_rows_made f))
+    end_tag_made
 
 -- ---- the layers
 

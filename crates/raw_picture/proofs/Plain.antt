@@ -32,11 +32,12 @@ use Rattle.raw_model.specs.Texts.{word_text, words_text, cause_text}
 use Rattle.raw_model.specs.StateTexts.{going_text, program_mark, local_mark, mark_of, outcome_word}
 use Rattle.raw_model.proofs.Words.{bytes_of_word}
 use Rattle.raw_state_text.specs.Parts.{place_text}
+use Rattle.raw_names.specs.Names.{port_name_of, processor_name}
 use Rattle.raw_picture.specs.declared.names.Progress.{Progress}
 use Rattle.raw_picture.specs.declared.told.Telling.TheVariants.{Sentences}
 use Rattle.raw_picture.specs.Plain.{is_plain_byte, IsPlain, escape_byte, escape}
 use Rattle.raw_picture.specs.Forms.{labelled}
-use Rattle.raw_picture.specs.Names.{port_name, name, wait_text, behind, is_blank, after_first_word, shown_mark}
+use Rattle.raw_picture.specs.Names.{wait_text, behind, is_blank, after_first_word, shown_mark}
 use Rattle.raw_picture.specs.Told.{say, wait_told, wait_piece, lead, waits_told, told_in, all_waits}
 use Rattle.raw_picture.specs.Opening.{grid_text, title_text, set_text}
 use Rattle.raw_picture.specs.Boxes.{box_title, done_word, port_title, port_text}
@@ -124,15 +125,15 @@ plain_kind : (k : PortKind) → IsPlain (kind_text k)
 plain_kind kind.Source = refl
 plain_kind kind.Sink = refl
 
-plain_port : (place : Option PortPlace) → IsPlain (port_name place)
+plain_port : (place : Option PortPlace) → IsPlain (port_name_of place)
 plain_port None = refl
 plain_port (Some place) = simp (list_all-append is_plain_byte, plain_kind, plain_net, plain_number, plain_side)
 
-pub plain_name : (topo : Topology) (p : ℕ) → IsPlain (name topo p)
-unfolding name
+pub plain_name : (topo : Topology) (p : ℕ) → IsPlain (processor_name topo p)
+unfolding processor_name
 plain_name topo p =
     let tiles = tile_count topo in
-    let port : List ℕ = port_name (slice_get topo.places (p - 2 * tiles)) in
+    let port : List ℕ = port_name_of (slice_get topo.places (p - 2 * tiles)) in
     let tile : IsPlain (codes "tile " ++ place_text topo p) = simp (list_all-append is_plain_byte, plain_number) in
     let switch : IsPlain (codes "switch " ++ place_text topo (p - tiles)) = simp (list_all-append is_plain_byte, plain_number) in
     either (nat_lt p tiles) (codes "tile " ++ place_text topo p) (if nat_lt p (2 * tiles) then codes "switch " ++ place_text topo (p - tiles) else port) tile

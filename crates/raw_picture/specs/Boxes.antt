@@ -16,7 +16,8 @@ use Rattle.raw_picture.specs.declared.names.Progress.{Progress}
 use Rattle.raw_picture.specs.declared.layout.TheConstants.{BOX_HEIGHT, EAST_PORT, LANE, LANES_TOP, NORTH_PORT, PORT_HEIGHT, PORT_LEFT, PORT_WIDTH, SOUTH_PORT, SWITCH_LEFT, SWITCH_TOP, SWITCH_WIDTH, TILE_WIDTH, WEST_PORT}
 use Rattle.raw_picture.specs.Places.{corner_at, cell, port_lane}
 use Rattle.raw_picture.specs.Forms.{in_turn, rect, text, title, group_start, group_end, labelled}
-use Rattle.raw_picture.specs.Names.{name, first_word, shown_mark, no_code, no_switch_code, pc_at}
+use Rattle.raw_names.specs.Names.{processor_name}
+use Rattle.raw_picture.specs.Names.{first_word, shown_mark, no_code, no_switch_code, pc_at}
 use Rattle.raw_picture.specs.Told.{is_told}
 
 -- the class of a box, by the mark that it shows and whether its processor is told
@@ -30,7 +31,7 @@ progress_of s p = record { count = count_in (slice_get s.locals p); pc = pc_at (
 -- what the title of the box of a tile or a switch says
 unfoldable pub box_title : Topology → ℕ → List ℕ → Progress → List ℕ
 box_title topo p mark far =
-    name topo p ++ codes ", processor " ++ decimal p ++ codes ": " ++ mark ++ codes ", count " ++ decimal far.count
+    processor_name topo p ++ codes ", processor " ++ decimal p ++ codes ": " ++ mark ++ codes ", count " ++ decimal far.count
     ++ codes ", pc " ++ decimal far.pc
 
 -- the box of a tile or a switch at a point, as wide as this: its name, its number, its mark, its count and its pc
@@ -40,7 +41,7 @@ box_with topo p at width mark on far =
     group_start
     ∷ title (box_title topo p mark far)
     ∷ rect (box_class mark on) at.x at.y width BOX_HEIGHT 4
-    ∷ text (codes "name") (at.x + 8) (at.y + 20) (name topo p)
+    ∷ text (codes "name") (at.x + 8) (at.y + 20) (processor_name topo p)
     ∷ text (codes "soft end") (at.x + width - 8) (at.y + 20) (labelled (codes "#") p)
     ∷ text (codes "mark") (at.x + 8) (at.y + 39) mark
     ∷ text (codes "plain") (at.x + 8) (at.y + 57) (labelled (codes "count ") far.count)
@@ -87,7 +88,7 @@ most_at kind (Some port) = most_of kind port
 -- what the title of the box of a port says
 unfoldable pub port_title : Topology → ℕ → PortPlace → List ℕ → ℕ → ℕ → List ℕ
 port_title topo p place mark count most =
-    name topo p ++ codes ", processor " ++ decimal p ++ codes ": " ++ mark ++ codes ", " ++ done_word place.kind ++ codes " "
+    processor_name topo p ++ codes ", processor " ++ decimal p ++ codes ": " ++ mark ++ codes ", " ++ done_word place.kind ++ codes " "
     ++ decimal count ++ codes " of " ++ decimal most
 
 -- what the box of a port shows: its kind, its network, how far it is

@@ -10,10 +10,11 @@ use Rattle.raw_model.specs.Program.{ProgramSet}
 use Rattle.raw_model.specs.Start.{MachineState}
 use Rattle.raw_model.specs.Texts.{words_text}
 use Rattle.raw_model.specs.Waits.{first_wait}
+use Rattle.raw_names.specs.Names.{processor_name}
 use Rattle.raw_picture.specs.declared.course.Course.{Course}
 use Rattle.raw_picture.specs.Places.{run_at, wire_course, wait_course}
 use Rattle.raw_picture.specs.Forms.{in_turn, title, group_start, group_end, arrow, number, tag_box, tag_text, labelled}
-use Rattle.raw_picture.specs.Names.{name, wait_text}
+use Rattle.raw_picture.specs.Names.{wait_text}
 use Rattle.raw_picture.specs.Told.{is_told}
 
 -- the class of the arrow of a network, and that of a number on it
@@ -28,8 +29,8 @@ number_class Two = codes "t2 mid"
 -- a wire: its network and its two ends
 unfoldable pub wire_text : Topology → ℕ → List ℕ
 wire_text topo v =
-    codes "wire " ++ decimal v ++ codes ", network " ++ net_text (run_at topo v).net ++ codes ", from " ++ name topo (producer_of topo v)
-    ++ codes " to " ++ name topo (consumer_of topo v)
+    codes "wire " ++ decimal v ++ codes ", network " ++ net_text (run_at topo v).net ++ codes ", from " ++ processor_name topo (producer_of topo v)
+    ++ codes " to " ++ processor_name topo (consumer_of topo v)
 
 -- the group of a wire that holds these values
 unfoldable pub wire_group : Topology → ℕ → List ℕ → List ℕ

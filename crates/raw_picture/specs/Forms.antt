@@ -17,9 +17,9 @@ rect class x y width height radius =
     codes "<rect class=\"" ++ class ++ codes "\" x=\"" ++ decimal x ++ codes "\" y=\"" ++ decimal y
     ++ codes "\" width=\"" ++ decimal width ++ codes "\" height=\"" ++ decimal height ++ codes "\" rx=\"" ++ decimal radius ++ codes "\"/>\n"
 
--- what stands before a text of this class at this point
+-- what stands before a text of this class at this point, without the end of its tag
 unfoldable pub text_head : List ℕ → ℕ → ℕ → List ℕ
-text_head class x y = codes "<text class=\"" ++ class ++ codes "\" x=\"" ++ decimal x ++ codes "\" y=\"" ++ decimal y ++ codes "\">"
+text_head class x y = codes "<text class=\"" ++ class ++ codes "\" x=\"" ++ decimal x ++ codes "\" y=\"" ++ decimal y
 
 -- what stands behind a text
 abbrev pub text_end : List ℕ
@@ -27,12 +27,12 @@ text_end = codes "</text>\n"
 
 -- a text of this class at this point
 unfoldable pub text : List ℕ → ℕ → ℕ → List ℕ → List ℕ
-text class x y shown = text_head class x y ++ shown ++ text_end
+text class x y shown = text_head class x y ++ codes "\">" ++ shown ++ text_end
 
--- a text that runs upwards
-unfoldable pub turned : List ℕ → ℕ → ℕ → List ℕ → List ℕ
-turned class x y shown =
-    codes "<text class=\"" ++ class ++ codes "\" x=\"" ++ decimal x ++ codes "\" y=\"" ++ decimal y
+-- the text of a tag that runs upwards
+unfoldable pub turned : ℕ → ℕ → List ℕ → List ℕ
+turned x y shown =
+    text_head (codes "tagged mid") x y
     ++ codes "\" transform=\"rotate(-90 " ++ decimal x ++ codes " " ++ decimal y ++ codes ")\">" ++ shown ++ text_end
 
 -- a title, which a reader of the document shows where one points
@@ -77,8 +77,8 @@ tag_box course = tag_box_by course.way (along course MIDDLE).x (along course MID
 abbrev pub tag_text_by : Side → ℕ → ℕ → List ℕ → List ℕ
 tag_text_by E x y shown = text (codes "tagged mid") x (y + 4) shown
 tag_text_by W x y shown = text (codes "tagged mid") x (y + 4) shown
-tag_text_by N x y shown = turned (codes "tagged mid") (x + 4) y shown
-tag_text_by S x y shown = turned (codes "tagged mid") (x + 4) y shown
+tag_text_by N x y shown = turned (x + 4) y shown
+tag_text_by S x y shown = turned (x + 4) y shown
 
 unfoldable pub tag_text : Course → List ℕ → List ℕ
 tag_text course shown = tag_text_by course.way (along course MIDDLE).x (along course MIDDLE).y shown

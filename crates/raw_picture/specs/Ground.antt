@@ -1,5 +1,5 @@
 -- The ground of a picture: the cells of the tiles, and the channels in which wires run.
-use Rattle.std.specs.Prelude.{ℕ, ◌+◌, ◌-◌, ◌*◌, ◌/◌, ◌%◌, nat_lt, List, [], ◌++◌, codes, if◌then◌else◌}
+use Rattle.std.specs.Prelude.{ℕ, ◌+◌, ◌-◌, ◌*◌, ◌/◌, ◌%◌, nat_lt, Bool, List, [], ◌++◌, codes, if◌then◌else◌}
 use Rattle.raw_grid.specs.declared.parts.Side.{Side}
 use Rattle.raw_grid.specs.declared.parts.Side.TheVariants.{N, E, S, W}
 use Rattle.raw_grid.specs.declared.parts.PortPlace.{PortPlace}
@@ -17,19 +17,17 @@ cell_ground topo t = rect (codes "cell") ((cell topo t).x - CELL_EDGE) ((cell to
 abbrev pub channel_ground : ℕ → ℕ → ℕ → ℕ → List ℕ
 channel_ground x y width height = rect (codes "link") x y width height 0
 
--- the channel to the neighbour in the east of a tile, and to that in the south, where there is one
-unfoldable pub east_ground : Topology → ℕ → List ℕ
-east_ground topo t =
-    if nat_lt (t % topo.cols + 1) topo.cols then channel_ground ((cell topo t).x + SWITCH_RIGHT) ((cell topo t).y + SWITCH_TOP) SHORT CHANNEL else []
-
-unfoldable pub south_ground : Topology → ℕ → List ℕ
-south_ground topo t =
-    if nat_lt (t / topo.cols + 1) topo.rows then channel_ground ((cell topo t).x + SOUTH_LEFT) ((cell topo t).y + SWITCH_BOTTOM) CHANNEL LONG else []
+-- that to a neighbour, where there is one
+abbrev pub neighbour_ground : Bool → ℕ → ℕ → ℕ → ℕ → List ℕ
+neighbour_ground there x y width height = if there then channel_ground x y width height else []
 
 -- the channels of a tile: to its switch, to the east, to the south
 unfoldable pub link_ground : Topology → ℕ → List ℕ
 link_ground topo t =
-    channel_ground ((cell topo t).x + DOWN_LEFT) ((cell topo t).y + BOX_HEIGHT) CHANNEL SHORT ++ east_ground topo t ++ south_ground topo t
+    let c = cell topo t in
+    channel_ground (c.x + DOWN_LEFT) (c.y + BOX_HEIGHT) CHANNEL SHORT
+    ++ neighbour_ground (nat_lt (t % topo.cols + 1) topo.cols) (c.x + SWITCH_RIGHT) (c.y + SWITCH_TOP) SHORT CHANNEL
+    ++ neighbour_ground (nat_lt (t / topo.cols + 1) topo.rows) (c.x + SOUTH_LEFT) (c.y + SWITCH_BOTTOM) CHANNEL LONG
 
 -- the lane of a port at a side of a cell
 abbrev pub lane_ground_at : Side → Point → ℕ → List ℕ

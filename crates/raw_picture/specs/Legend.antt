@@ -1,9 +1,13 @@
 -- The legend of a picture.
-use Rattle.std.specs.Prelude.{ℕ, ◌+◌, ◌-◌, List, [], ◌∷◌, ◌++◌, codes}
+use Rattle.std.specs.Prelude.{ℕ, ◌+◌, ◌-◌, ◌*◌, List, [], ◌∷◌, ◌++◌, codes}
+use Rattle.raw_grid.specs.declared.parts.Net.{Net}
+use Rattle.raw_grid.specs.declared.parts.Net.TheVariants.{One, Two}
 use Rattle.raw_grid.specs.declared.parts.Side.TheVariants.{E}
+use Rattle.raw_grid.specs.Names.{net_number}
 use Rattle.raw_picture.specs.declared.course.Course.{Course}
 use Rattle.raw_picture.specs.declared.frame.Frame.{Frame}
 use Rattle.raw_picture.specs.declared.layout.TheConstants.{LEGEND_HEIGHT, LEGEND_LEFT, LEGEND_TEXT, SHORT}
+use Rattle.raw_picture.specs.Flows.{arrow_class, number_class}
 use Rattle.raw_picture.specs.Forms.{in_turn, text, arrow, number, tag_box, tag_text, labelled}
 
 -- the course of a line of the legend with this track; the legend stands in the lower left corner
@@ -14,16 +18,19 @@ legend_course f track = record { channel = record { x = f.left + LEGEND_LEFT; y 
 unfoldable pub legend_text : Frame → ℕ → List ℕ → List ℕ
 legend_text f track shown = text (codes "soft") (f.left + LEGEND_TEXT) (f.bottom - LEGEND_HEIGHT + track + 4) shown
 
+-- what the row of a wire of this network says
+abbrev pub wire_meaning : Net → List ℕ
+wire_meaning One = codes "a wire of network 1 that holds 3 values"
+wire_meaning Two = codes "a wire of network 2 that holds 3 values"
+
 -- the legend: an arrow of each kind, and what it means
-unfoldable pub wire_rows : Frame → List ℕ
-wire_rows f =
+unfoldable pub wire_row : Frame → Net → List ℕ
+wire_row f net =
+    let track = 20 * (net_number net - 1) in
     in_turn (
-    arrow (codes "n1") (legend_course f 0) 15
-    ∷ number (codes "t1 mid") (legend_course f 0) (codes "3")
-    ∷ legend_text f 0 (codes "a wire of network 1 that holds 3 values")
-    ∷ arrow (codes "n2") (legend_course f 20) 15
-    ∷ number (codes "t2 mid") (legend_course f 20) (codes "3")
-    ∷ legend_text f 20 (codes "a wire of network 2 that holds 3 values")
+    arrow (arrow_class net) (legend_course f track) 15
+    ∷ number (number_class net) (legend_course f track) (codes "3")
+    ∷ legend_text f track (wire_meaning net)
     ∷ [])
 
 unfoldable pub wait_rows : Frame → List ℕ
@@ -38,4 +45,4 @@ wait_rows f =
     ∷ [])
 
 unfoldable pub legend : Frame → List ℕ
-legend f = wire_rows f ++ wait_rows f ++ codes "</svg>\n"
+legend f = wire_row f One ++ wire_row f Two ++ wait_rows f ++ codes "</svg>\n"

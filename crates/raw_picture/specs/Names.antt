@@ -1,31 +1,17 @@
 -- What a picture says of processors in words: their names, their marks, how far they are, whom they wait for.
-use Rattle.std.specs.Prelude.{ℕ, ◌+◌, ◌-◌, ◌*◌, ◌==◌, nat_lt, Bool, false, Option, Some, None, List, [], ◌++◌, codes, decimal, drop, take, length, slice_get, if◌then◌else◌}
+use Rattle.std.specs.Prelude.{ℕ, ◌+◌, ◌==◌, Bool, false, Option, Some, None, List, [], ◌++◌, codes, decimal, drop, take, length, if◌then◌else◌}
 use Rattle.std.specs.List.{position}
-use Rattle.raw_grid.specs.declared.parts.PortPlace.{PortPlace}
-use Rattle.raw_grid.specs.Names.{kind_text}
-use Rattle.raw_grid.specs.Topology.{Topology, tile_count}
+use Rattle.raw_grid.specs.Topology.{Topology}
 use Rattle.raw_model.specs.Program.{ProgramSet, TileProgram}
 use Rattle.raw_model.specs.Local.{Local, Tile, Switch}
 use Rattle.raw_model.specs.Start.{MachineState}
 use Rattle.raw_model.specs.Waits.{other_end}
-use Rattle.raw_model.specs.StateTexts.{mark_of, port_place_text}
-use Rattle.raw_state_text.specs.Parts.{place_text}
-
--- the name of the port at this place: its kind, its network, its column and row, its side
-abbrev pub port_name : Option PortPlace → List ℕ
-port_name None = []
-port_name (Some place) = kind_text place.kind ++ codes " " ++ port_place_text place
-
--- the name of a processor: tiles come first, then the switches, then the ports
-unfoldable pub name : Topology → ℕ → List ℕ
-name topo p =
-    if nat_lt p (tile_count topo) then codes "tile " ++ place_text topo p
-    else (if nat_lt p (2 * tile_count topo) then codes "switch " ++ place_text topo (p - tile_count topo)
-    else port_name (slice_get topo.places (p - 2 * tile_count topo)))
+use Rattle.raw_model.specs.StateTexts.{mark_of}
+use Rattle.raw_names.specs.Names.{processor_name}
 
 -- processor p waits on wire v for the processor at its other end
 unfoldable pub wait_text : Topology → ℕ → ℕ → List ℕ
-wait_text topo p v = name topo p ++ codes " waits on wire " ++ decimal v ++ codes " for " ++ name topo (other_end topo p v)
+wait_text topo p v = processor_name topo p ++ codes " waits on wire " ++ decimal v ++ codes " for " ++ processor_name topo (other_end topo p v)
 
 -- a text up to its first blank, and what stands behind that
 abbrev pub up_to : List ℕ → Option ℕ → List ℕ

@@ -1,6 +1,6 @@
 -- Where the pieces of a picture stand, as functions of column, row and lane. A number that is taken away is
 -- never the greater one: a corner lies far enough from the left and from above.
-use Rattle.std.specs.Prelude.{ℕ, ◌+◌, ◌-◌, ◌*◌, ◌/◌, ◌%◌, ◌≤◌, ◌==◌, ◌||◌, nat_lt, nat_le, Bool, if◌then◌else◌}
+use Rattle.std.specs.Prelude.{ℕ, ◌+◌, ◌-◌, ◌*◌, ◌/◌, ◌%◌, ◌≤◌, ◌==◌, ◌||◌, nat_lt, nat_le, if◌then◌else◌}
 use Rattle.raw_grid.specs.declared.parts.Net.{Net}
 use Rattle.raw_grid.specs.declared.parts.Net.TheVariants.{One, Two}
 use Rattle.raw_grid.specs.declared.parts.Side.{Side}
@@ -14,6 +14,9 @@ use Rattle.raw_grid.specs.Topology.{Topology, tile_count}
 use Rattle.raw_grid.specs.Wires.{producer_of, producer_end, consumer_of, consumer_end}
 use Rattle.raw_picture.specs.declared.course.Point.{Point}
 use Rattle.raw_picture.specs.declared.course.Channel.{Channel}
+use Rattle.raw_picture.specs.declared.course.Beside.{Beside}
+use Rattle.raw_picture.specs.declared.course.Beside.TheVariants.{Tile, Neighbour, Port}
+use Rattle.raw_picture.specs.declared.course.WirePlace.{WirePlace}
 use Rattle.raw_picture.specs.declared.course.Course.{Course}
 use Rattle.raw_picture.specs.declared.course.Run.{Run}
 use Rattle.raw_picture.specs.declared.course.WireEnds.{WireEnds}
@@ -37,24 +40,18 @@ back _ = 0
 abbrev pub lane : Net → Side → ℕ
 lane net way = 2 * (net_number net - 1) + back way
 
--- the channel between the tile and the switch of a cell
-abbrev pub tile_channel : Point → Channel
-tile_channel c = record { x = c.x + DOWN_LEFT; y = c.y + BOX_HEIGHT; length = SHORT }
-
--- the channel between the switch of a cell and its neighbour at a side. It is one and the same for both of them: the
--- corners of neighbours lie a column or a row apart
-abbrev pub link_channel : Point → Side → Channel
-link_channel c E = record { x = c.x + SWITCH_RIGHT; y = c.y + SWITCH_TOP; length = SHORT }
-link_channel c S = record { x = c.x + SOUTH_LEFT; y = c.y + SWITCH_BOTTOM; length = LONG }
-link_channel c W = record { x = c.x - WEST_START; y = c.y + SWITCH_TOP; length = SHORT }
-link_channel c N = record { x = c.x + SOUTH_LEFT; y = c.y - NORTH_START; length = LONG }
-
--- the channel between the switch of a cell and a port at a side, where the wire of the port has this lane
-abbrev pub port_channel : Point → Side → ℕ → Channel
-port_channel c W k = record { x = c.x - WEST_START; y = c.y + SWITCH_TOP; length = SHORT }
-port_channel c E k = record { x = c.x + SWITCH_RIGHT; y = c.y + SWITCH_TOP; length = SHORT }
-port_channel c N k = record { x = c.x + SOUTH_LEFT; y = c.y - (NORTH_GAP + LANE * k); length = NORTH_LENGTH + LANE * k }
-port_channel c S k = record { x = c.x + SOUTH_LEFT; y = c.y + SWITCH_BOTTOM; length = SHORT + LANE * k }
+-- the channel between the switch of a cell and what is beside it, where the wire of a port has this lane. That of two
+-- neighbours is one and the same for both of them: their corners lie a column or a row apart
+abbrev pub channel_at : Point → Beside → ℕ → Channel
+channel_at c Tile k = record { x = c.x + DOWN_LEFT; y = c.y + BOX_HEIGHT; length = SHORT }
+channel_at c (Neighbour E) k = record { x = c.x + SWITCH_RIGHT; y = c.y + SWITCH_TOP; length = SHORT }
+channel_at c (Neighbour S) k = record { x = c.x + SOUTH_LEFT; y = c.y + SWITCH_BOTTOM; length = LONG }
+channel_at c (Neighbour W) k = record { x = c.x - WEST_START; y = c.y + SWITCH_TOP; length = SHORT }
+channel_at c (Neighbour N) k = record { x = c.x + SOUTH_LEFT; y = c.y - NORTH_START; length = LONG }
+channel_at c (Port E) k = record { x = c.x + SWITCH_RIGHT; y = c.y + SWITCH_TOP; length = SHORT }
+channel_at c (Port S) k = record { x = c.x + SOUTH_LEFT; y = c.y + SWITCH_BOTTOM; length = SHORT + LANE * k }
+channel_at c (Port W) k = record { x = c.x - WEST_START; y = c.y + SWITCH_TOP; length = SHORT }
+channel_at c (Port N) k = record { x = c.x + SOUTH_LEFT; y = c.y - (NORTH_GAP + LANE * k); length = NORTH_LENGTH + LANE * k }
 
 -- the point of a course at this distance from its beginning
 abbrev pub along_way : Side → Channel → ℕ → ℕ → Point
@@ -77,32 +74,31 @@ side_at index =
     else (if index % 5 == 1 then E
     else (if index % 5 == 2 then S else W))
 
--- how a wire runs that leaves the switch of a cell at a side, to a port or to its neighbour there
-abbrev pub outward : Point → Side → Net → Bool → Run
-outward c side net to_port =
-    record { channel = if to_port then port_channel c side (lane net side) else link_channel c side; way = side; net = net }
-
--- how a wire runs that leads from a port at a side to the switch of a cell
-abbrev pub inward : Point → Side → Net → Run
-inward c side net =
-    record { channel = port_channel c side (lane net (opposite side)); way = opposite side; net = net }
-
 -- the ends of a wire
 abbrev pub ends_of : Topology → ℕ → WireEnds
 ends_of topo v =
     record { from = producer_of topo v; output = producer_end topo v; to = consumer_of topo v; input = consumer_end topo v }
 
--- how the wire with these ends runs: from a tile to its switch, from a switch to its tile, from a switch at a side,
--- from a port to a switch
+-- where the wire with these ends lies: from a tile to its switch, from a switch to its tile, from a switch at a side to a
+-- port or to its neighbour there, from a port to a switch
+unfoldable pub place_of : Topology → WireEnds → WirePlace
+place_of topo e =
+    if nat_lt e.from (tile_count topo) then record { tile = e.from; beside = Tile; way = S }
+    else (if nat_lt e.to (tile_count topo) then record { tile = e.to; beside = Tile; way = N }
+    else (if nat_lt e.from (2 * tile_count topo)
+    then record {
+      tile = e.from - tile_count topo;
+      beside = if nat_le (2 * tile_count topo) e.to then Port (side_at e.output) else Neighbour (side_at e.output);
+      way = side_at e.output;
+    }
+    else record { tile = e.to - tile_count topo; beside = Port (side_at e.input); way = opposite (side_at e.input) }))
+
+-- how the wire with these ends runs
 unfoldable pub run_of : Topology → WireEnds → Run
 run_of topo e =
-    if nat_lt e.from (tile_count topo)
-    then record { channel = tile_channel (cell topo e.from); way = S; net = net_at e.output }
-    else (if nat_lt e.to (tile_count topo)
-    then record { channel = tile_channel (cell topo e.to); way = N; net = net_at e.output }
-    else (if nat_lt e.from (2 * tile_count topo)
-    then outward (cell topo (e.from - tile_count topo)) (side_at e.output) (net_at e.output) (nat_le (2 * tile_count topo) e.to)
-    else inward (cell topo (e.to - tile_count topo)) (side_at e.input) (net_at e.output)))
+    let place = place_of topo e in
+    let net = net_at e.output in
+    record { channel = channel_at (cell topo place.tile) place.beside (lane net place.way); way = place.way; net = net }
 
 -- how a wire runs
 abbrev pub run_at : Topology → ℕ → Run

@@ -13,6 +13,7 @@ use Rattle.raw_model.specs.Outcomes.Outcome.{Done, Deadlock, Trapped, Limit, Stu
 use Rattle.raw_model.specs.StateTexts.{mark_of}
 use Rattle.raw_outcome.specs.declared.ends.Outcome.{Outcome as Answer}
 use Rattle.raw_outcome.specs.declared.ends.Outcome.TheVariants as answer
+use Rattle.raw_names.specs.Names.{processor_name}
 use Rattle.raw_picture.specs.declared.course.Course.{Course}
 use Rattle.raw_picture.specs.declared.told.Shape.{Shape}
 use Rattle.raw_picture.specs.declared.told.Shape.TheVariants.{Nothing, Chain, Cycle}
@@ -20,16 +21,16 @@ use Rattle.raw_picture.specs.declared.told.Told.{Told}
 use Rattle.raw_picture.specs.declared.told.Telling.{Telling}
 use Rattle.raw_picture.specs.declared.told.Telling.TheVariants.{Sentences, Lines}
 use Rattle.raw_picture.specs.Places.{along, wait_course}
-use Rattle.raw_picture.specs.Names.{name, wait_text, after_first_word}
+use Rattle.raw_picture.specs.Names.{wait_text, after_first_word}
 
 -- the sentence of an outcome; a trap's cause stands behind the first word of its processor's mark
 unfoldable pub say : ProgramSet → MachineState → Outcome → List ℕ
 say set s Done = codes "every tile and every switch is halted"
 say set s (Deadlock p ps) = codes "a cycle of " ++ decimal (length ps + 1) ++ codes " processors, each waits for the next"
-say set s (Trapped p) = name set.topo p ++ codes " is trapped: " ++ after_first_word (mark_of set s p)
-say set s (Limit p) = name set.topo p ++ codes " has executed its limit of " ++ decimal set.limit
+say set s (Trapped p) = processor_name set.topo p ++ codes " is trapped: " ++ after_first_word (mark_of set s p)
+say set s (Limit p) = processor_name set.topo p ++ codes " has executed its limit of " ++ decimal set.limit
 say set s (Stuck p) =
-    codes "the waits from " ++ name set.topo p ++ codes " end in " ++ name set.topo (chain_end set s p)
+    codes "the waits from " ++ processor_name set.topo p ++ codes " end in " ++ processor_name set.topo (chain_end set s p)
     ++ codes ", " ++ mark_of set s (chain_end set s p)
 
 -- the processors that an outcome tells, in order: those of the cycle, or those of the chain with its last one

@@ -8,12 +8,11 @@ use crate::course::{Point, cell};
 use crate::drawn::Drawn;
 use crate::forms::{CLOSE, OPEN, labelled, push_labelled, rect, text, title};
 use crate::layout::{BOX_HEIGHT, SWITCH_LEFT, SWITCH_TOP, SWITCH_WIDTH, TILE_WIDTH};
-use crate::names::{
-    Progress, first_word, name, no_code, no_switch_code, progress_of, push_name, shown_mark,
-};
+use crate::names::{Progress, first_word, no_code, no_switch_code, progress_of, shown_mark};
 use crate::told::is_told;
 use raw_grid::{ProcId, Topo};
 use raw_io::{Failed, Sink, put_each};
+use raw_names::push_processor_name;
 use raw_serial::Machine;
 use raw_state_text::Line;
 
@@ -40,7 +39,7 @@ fn box_title(topo: &Topo, p: ProcId, mark: &[u8], far: Progress) -> Line
     ensures len { length result ≤ 165 }
 {
     let mut line = Line::new();
-    push_name(&mut line, topo, p);
+    push_processor_name(&mut line, topo, p);
     push_labelled(&mut line, b", processor ", p.0);
     line.push_text(b": ");
     line.push_text(mark);
@@ -80,7 +79,9 @@ fn put_box_with<K: Sink>(
     let title = title(box_title(topo, p, shown.mark, shown.far).as_bytes());
     let class = box_class(shown.mark, shown.on);
     let area = rect(class.as_bytes(), at.x, at.y, width, BOX_HEIGHT, 4);
-    let name = text(b"name", at.x + 8, at.y + 20, name(topo, p).as_bytes());
+    let mut name = Line::new();
+    push_processor_name(&mut name, topo, p);
+    let name = text(b"name", at.x + 8, at.y + 20, name.as_bytes());
     let number = labelled(b"#", u64::from(p.0));
     let number = text(b"soft end", at.x + width - 8, at.y + 20, number.as_bytes());
     let mark = text(b"mark", at.x + 8, at.y + 39, shown.mark);

@@ -2,7 +2,7 @@
 ghost use Rattle.std.specs.Prelude.{◌≡◌, ◌+◌, ◌-◌, ◌*◌, ◌<◌, ◌≤◌, length};
 ghost use Rattle.raw_grid.specs.Topology.{tile_count, proc_count};
 ghost use Rattle.raw_grid.specs.Wires.{wires_of};
-ghost use Rattle.raw_picture.specs.Places.{corner_at, cell, lane, IsCorner, IsChannel, IsCourse, tile_channel, link_channel, port_channel, along, net_at, side_at, outward, inward, run_of, run_at, wire_course, wait_way, wait_track, wait_course, ends_of};
+ghost use Rattle.raw_picture.specs.Places.{corner_at, cell, lane, IsCorner, IsChannel, IsCourse, channel_at, along, net_at, side_at, place_of, run_of, wire_course, wait_way, wait_track, wait_course, ends_of};
 
 use crate::layout::{
     BOX_HEIGHT, COLUMN, DOWN_LEFT, FIRST_X, FIRST_Y, LANE, LONG, NETWORK, NORTH_GAP, NORTH_LENGTH,
@@ -24,6 +24,22 @@ pub(crate) struct Channel {
     pub(crate) x: u32,
     pub(crate) y: u32,
     pub(crate) length: u32,
+}
+
+/// What a channel joins to the switch of a cell: the tile, the neighbour at a side, or a port there.
+#[derive(Clone, Copy)]
+pub(crate) enum Beside {
+    Tile,
+    Neighbour(Side),
+    Port(Side),
+}
+
+/// Where a wire lies: in which cell, between its switch and what, and the side that it leads to.
+#[derive(Clone, Copy)]
+pub(crate) struct WirePlace {
+    pub(crate) tile: u32,
+    pub(crate) beside: Beside,
+    pub(crate) way: Side,
 }
 
 /// Where an arrow runs: its channel, the side that it points to, and how far it lies from the edge of the
@@ -88,50 +104,29 @@ pub(crate) fn lane(net: Net, way: Side) -> u32
     2 * (u32::from(net.number()) - 1) + back
 }
 
-// The channel between a tile and its switch.
-fn tile_channel(c: Point) -> Channel
-    requires { IsCorner c }
-    ensures value { result ≡ tile_channel c }
-    ensures channel { IsChannel result }
-{
-    Channel {
-        x: c.x + DOWN_LEFT,
-        y: c.y + BOX_HEIGHT,
-        length: SHORT,
-    }
-}
-
-// The channel between the switch of a cell and its neighbour at a side.
-fn link_channel(c: Point, side: Side) -> Channel
-    requires { IsCorner c }
-    ensures value { result ≡ link_channel c side }
-    ensures channel { IsChannel result }
-{
-    let (x, y, length) = match side {
-        Side::N => (c.x + SOUTH_LEFT, c.y - NORTH_START, LONG),
-        Side::E => (c.x + SWITCH_RIGHT, c.y + SWITCH_TOP, SHORT),
-        Side::S => (c.x + SOUTH_LEFT, c.y + SWITCH_BOTTOM, LONG),
-        Side::W => (c.x - WEST_START, c.y + SWITCH_TOP, SHORT),
-    };
-    Channel { x, y, length }
-}
-
-// The channel between the switch of a cell and a port at a side, by the lane of its wire.
-fn port_channel(c: Point, side: Side, lane: u32) -> Channel
+// The channel between the switch of a cell and what is beside it, by the lane of its wire.
+fn channel_at(c: Point, beside: Beside, lane: u32) -> Channel
     requires corner { IsCorner c }
     requires lane { lane ≤ 3 }
-    ensures value { result ≡ port_channel c side lane }
+    ensures value { result ≡ channel_at c beside lane }
     ensures channel { IsChannel result }
 {
-    let (x, y, length) = match side {
-        Side::N => (
+    let (x, y, length) = match beside {
+        Beside::Tile => (c.x + DOWN_LEFT, c.y + BOX_HEIGHT, SHORT),
+        Beside::Neighbour(Side::E) | Beside::Port(Side::E) => {
+            (c.x + SWITCH_RIGHT, c.y + SWITCH_TOP, SHORT)
+        }
+        Beside::Neighbour(Side::W) | Beside::Port(Side::W) => {
+            (c.x - WEST_START, c.y + SWITCH_TOP, SHORT)
+        }
+        Beside::Neighbour(Side::N) => (c.x + SOUTH_LEFT, c.y - NORTH_START, LONG),
+        Beside::Neighbour(Side::S) => (c.x + SOUTH_LEFT, c.y + SWITCH_BOTTOM, LONG),
+        Beside::Port(Side::N) => (
             c.x + SOUTH_LEFT,
             c.y - (NORTH_GAP + LANE * lane),
             NORTH_LENGTH + LANE * lane,
         ),
-        Side::E => (c.x + SWITCH_RIGHT, c.y + SWITCH_TOP, SHORT),
-        Side::S => (c.x + SOUTH_LEFT, c.y + SWITCH_BOTTOM, SHORT + LANE * lane),
-        Side::W => (c.x - WEST_START, c.y + SWITCH_TOP, SHORT),
+        Beside::Port(Side::S) => (c.x + SOUTH_LEFT, c.y + SWITCH_BOTTOM, SHORT + LANE * lane),
     };
     Channel { x, y, length }
 }
@@ -171,74 +166,66 @@ fn side_at(index: u8) -> Side
     }
 }
 
-// How a wire runs that leaves the switch of a cell at a side, to a port or to its neighbour there.
-fn outward(c: Point, side: Side, net: Net, to_port: bool) -> Run
-    requires { IsCorner c }
-    ensures value { result ≡ outward c side net to_port }
-    ensures channel { IsChannel result.channel }
+// Where the wire with these ends lies.
+#[tactic(auto, unfolding(crate::specs::Places::place_of))]
+fn place_of(topo: &Topo, ends: WireEnds) -> WirePlace
+    requires from { ends.from < MAX_PROCS }
+    requires to { ends.to < MAX_PROCS }
+    ensures value { result ≡ place_of topo.now ends }
+    ensures there { result.tile ≤ MAX_PROCS }
 {
-    let channel = if to_port {
-        port_channel(c, side, lane(net, side))
-    } else {
-        link_channel(c, side)
-    };
-    Run {
-        channel,
-        way: side,
-        net,
+    let tiles = topo.tiles();
+    if ends.from < tiles {
+        return WirePlace {
+            tile: ends.from,
+            beside: Beside::Tile,
+            way: Side::S,
+        };
     }
-}
-
-// How a wire runs that leads from a port at a side to the switch of a cell.
-fn inward(c: Point, side: Side, net: Net) -> Run
-    requires { IsCorner c }
-    ensures value { result ≡ inward c side net }
-    ensures channel { IsChannel result.channel }
-{
-    let way = side.opposite();
-    Run {
-        channel: port_channel(c, side, lane(net, way)),
-        way,
-        net,
+    if ends.to < tiles {
+        return WirePlace {
+            tile: ends.to,
+            beside: Beside::Tile,
+            way: Side::N,
+        };
+    }
+    if ends.from < 2 * tiles {
+        let side = side_at(ends.output);
+        let beside = if 2 * tiles <= ends.to {
+            Beside::Port(side)
+        } else {
+            Beside::Neighbour(side)
+        };
+        return WirePlace {
+            tile: ends.from - tiles,
+            beside,
+            way: side,
+        };
+    }
+    let side = side_at(ends.input);
+    WirePlace {
+        tile: ends.to - tiles,
+        beside: Beside::Port(side),
+        way: side.opposite(),
     }
 }
 
 // How the wire with these ends runs.
 #[tactic(auto, unfolding(crate::specs::Places::run_of))]
-fn run_of(topo: &Topo, ends: WireEnds) -> Run
+pub(crate) fn run_of(topo: &Topo, ends: WireEnds) -> Run
     requires from { ends.from < MAX_PROCS }
     requires to { ends.to < MAX_PROCS }
     ensures value { result ≡ run_of topo.now ends }
     ensures channel { IsChannel result.channel }
 {
-    let tiles = topo.tiles();
+    let place = place_of(topo, ends);
     let net = net_at(ends.output);
-    if ends.from < tiles {
-        let channel = tile_channel(cell(topo, ends.from));
-        return Run {
-            channel,
-            way: Side::S,
-            net,
-        };
+    let corner = cell(topo, place.tile);
+    Run {
+        channel: channel_at(corner, place.beside, lane(net, place.way)),
+        way: place.way,
+        net,
     }
-    if ends.to < tiles {
-        let channel = tile_channel(cell(topo, ends.to));
-        return Run {
-            channel,
-            way: Side::N,
-            net,
-        };
-    }
-    if ends.from < 2 * tiles {
-        let to_port = 2 * tiles <= ends.to;
-        return outward(
-            cell(topo, ends.from - tiles),
-            side_at(ends.output),
-            net,
-            to_port,
-        );
-    }
-    inward(cell(topo, ends.to - tiles), side_at(ends.input), net)
 }
 
 // The ends of a wire.
@@ -257,15 +244,6 @@ pub(crate) fn ends_of(topo: &Topo, wire: WireId) -> WireEnds
         to: topo.consumer(wire).0,
         input: topo.consumer_end(wire),
     }
-}
-
-// How a wire runs.
-pub(crate) fn run_at(topo: &Topo, wire: WireId) -> Run
-    requires { wire.0 < length (wires_of topo.now) }
-    ensures value { result ≡ run_at topo.now wire.0 }
-    ensures channel { IsChannel result.channel }
-{
-    run_of(topo, ends_of(topo, wire))
 }
 
 // The course of the arrow of a wire that runs so.

@@ -9,7 +9,6 @@ ghost use Rattle.raw_picture.specs.Told.{AnswerFits};
 ghost use Rattle.raw_picture.specs.Picture.{picture, picture_of};
 
 use crate::drawn::Drawn;
-use crate::frame::frame_of;
 use crate::layers::{put_figures, put_ground};
 use crate::legend::put_legend;
 use crate::opening::put_front;
@@ -33,7 +32,7 @@ fn put_picture<K: Sink>(m: &Machine<'_>, o: Outcome, out: &mut K) -> Result<(), 
     put_front(&drawn, out)?;
     put_ground(&drawn, out)?;
     put_figures(&drawn, out)?;
-    put_legend(frame_of(&m.set().topo), out)
+    put_legend(&m.set().topo, out)
 }
 
 /// Writes the picture of a machine at rest as an SVG document. It takes no memory.

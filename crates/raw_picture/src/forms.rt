@@ -1,7 +1,7 @@
 //! The forms of which a picture is made, each a line that is built in place.
 ghost use Rattle.std.specs.Prelude.{◌≡◌, ◌+◌, ◌≤◌, ◌++◌, length, codes, decimal};
 ghost use Rattle.raw_picture.specs.Places.{IsCourse};
-ghost use Rattle.raw_picture.specs.Forms.{rect, text_head, text, turned, title, stroke, arrow, number, tag_box, tag_text, labelled};
+ghost use Rattle.raw_picture.specs.Forms.{rect, text_head, text, turned, title, stroke, arrow, tag_box, tag_text, labelled};
 
 use crate::course::{Course, along};
 use crate::layout::{MIDDLE, TAG_BEFORE, TAG_BESIDE, TAG_LENGTH, TAG_WIDTH};
@@ -41,10 +41,11 @@ pub(crate) fn rect(class: &[u8], x: u32, y: u32, width: u32, height: u32, radius
     line
 }
 
-// The first attributes of a text of this class at this point.
-fn text_start(class: &[u8], x: u32, y: u32) -> Line
+// What stands before a text of this class at this point, without the end of its tag.
+#[tactic(auto, unfolding(crate::specs::Forms::text_head))]
+pub(crate) fn text_head(class: &[u8], x: u32, y: u32) -> Line
     requires { length class.now ≤ 14 }
-    ensures start { result ≡ codes "<text class=\"" ++ class.now ++ codes "\" x=\"" ++ decimal x ++ codes "\" y=\"" ++ decimal y }
+    ensures head { result ≡ text_head class.now x y }
     ensures len { length result ≤ 77 }
 {
     let mut line = Line::new();
@@ -52,18 +53,6 @@ fn text_start(class: &[u8], x: u32, y: u32) -> Line
     line.push_text(class);
     push_labelled(&mut line, b"\" x=\"", x);
     push_labelled(&mut line, b"\" y=\"", y);
-    line
-}
-
-// What stands before a text of this class at this point.
-#[tactic(auto, unfolding(crate::specs::Forms::text_head))]
-pub(crate) fn text_head(class: &[u8], x: u32, y: u32) -> Line
-    requires { length class.now ≤ 14 }
-    ensures head { result ≡ text_head class.now x y }
-    ensures len { length result ≤ 79 }
-{
-    let mut line = text_start(class, x, y);
-    line.push_text(b"\">");
     line
 }
 
@@ -75,19 +64,19 @@ pub(crate) fn text(class: &[u8], x: u32, y: u32, shown: &[u8]) -> Line
     ensures { result ≡ text class.now x y shown.now }
 {
     let mut line = text_head(class, x, y);
+    line.push_text(b"\">");
     line.push_text(shown);
     line.push_text(b"</text>\n");
     line
 }
 
-// A text that runs upwards.
+// The text of a tag that runs upwards.
 #[tactic(auto, unfolding(crate::specs::Forms::turned))]
-fn turned(class: &[u8], x: u32, y: u32, shown: &[u8]) -> Line
-    requires class { length class.now ≤ 14 }
-    requires shown { length shown.now ≤ 30 }
-    ensures { result ≡ turned class.now x y shown.now }
+fn turned(x: u32, y: u32, shown: &[u8]) -> Line
+    requires { length shown.now ≤ 30 }
+    ensures { result ≡ turned x y shown.now }
 {
-    let mut line = text_start(class, x, y);
+    let mut line = text_head(b"tagged mid", x, y);
     push_labelled(&mut line, b"\" transform=\"rotate(-90 ", x);
     push_labelled(&mut line, b" ", y);
     line.push_text(b")\">");
@@ -125,7 +114,7 @@ fn stroke(way: Side) -> &'static [u8]
 // An arrow of this class along a course, from this distance on.
 #[tactic(auto, unfolding(crate::specs::Forms::arrow))]
 pub(crate) fn arrow(class: &[u8], course: Course, d: u32) -> Line
-    requires class { length class.now ≤ 14 }
+    requires class { length class.now ≤ 4 }
     requires course { IsCourse course }
     requires near { d ≤ MIDDLE }
     ensures { result ≡ arrow class.now course d }
@@ -141,55 +130,45 @@ pub(crate) fn arrow(class: &[u8], course: Course, d: u32) -> Line
     line
 }
 
-// A number at the beginning of a course.
-pub(crate) fn number(class: &[u8], course: Course, shown: &[u8]) -> Line
-    requires class { length class.now ≤ 14 }
-    requires course { IsCourse course }
-    requires shown { length shown.now ≤ 105 }
-    ensures { result ≡ number class.now course shown.now }
-{
-    let at = along(course, 8);
-    text(class, at.x, at.y + 4, shown)
+/// A tag in the middle of a course: its box and its text.
+#[derive(Drop)]
+pub(crate) struct TagLines {
+    pub(crate) area: Line,
+    pub(crate) text: Line,
 }
 
-// The box of a tag in the middle of a course.
-#[tactic(auto, unfolding(crate::specs::Forms::tag_box))]
-pub(crate) fn tag_box(course: Course) -> Line
+/// The tag that names this wire.
+#[tactic(auto, unfolding(crate::specs::Forms::tag_box, crate::specs::Forms::tag_text))]
+pub(crate) fn tag(course: Course, wire: u32) -> TagLines
     requires { IsCourse course }
-    ensures { result ≡ tag_box course }
+    ensures area { result.area ≡ tag_box course }
+    ensures text { result.text ≡ tag_text course (labelled (codes "wire ") wire) }
 {
     let at = along(course, MIDDLE);
+    let label = labelled(b"wire ", u64::from(wire));
     match course.way {
-        Side::E | Side::W => rect(
-            b"tag",
-            at.x - TAG_BEFORE,
-            at.y - TAG_BESIDE,
-            TAG_LENGTH,
-            TAG_WIDTH,
-            3,
-        ),
-        Side::N | Side::S => rect(
-            b"tag",
-            at.x - TAG_BESIDE,
-            at.y - TAG_BEFORE,
-            TAG_WIDTH,
-            TAG_LENGTH,
-            3,
-        ),
-    }
-}
-
-// The text of a tag in the middle of a course.
-#[tactic(auto, unfolding(crate::specs::Forms::tag_text))]
-pub(crate) fn tag_text(course: Course, shown: &[u8]) -> Line
-    requires course { IsCourse course }
-    requires shown { length shown.now ≤ 30 }
-    ensures { result ≡ tag_text course shown.now }
-{
-    let at = along(course, MIDDLE);
-    match course.way {
-        Side::E | Side::W => text(b"tagged mid", at.x, at.y + 4, shown),
-        Side::N | Side::S => turned(b"tagged mid", at.x + 4, at.y, shown),
+        Side::E | Side::W => TagLines {
+            area: rect(
+                b"tag",
+                at.x - TAG_BEFORE,
+                at.y - TAG_BESIDE,
+                TAG_LENGTH,
+                TAG_WIDTH,
+                3,
+            ),
+            text: text(b"tagged mid", at.x, at.y + 4, label.as_bytes()),
+        },
+        Side::N | Side::S => TagLines {
+            area: rect(
+                b"tag",
+                at.x - TAG_BESIDE,
+                at.y - TAG_BEFORE,
+                TAG_WIDTH,
+                TAG_LENGTH,
+                3,
+            ),
+            text: turned(at.x + 4, at.y, label.as_bytes()),
+        },
     }
 }
 

@@ -3,7 +3,7 @@ ghost use Rattle.std.specs.Prelude.{◌≡◌, ◌<◌, ◌≤◌};
 ghost use Rattle.raw_io.specs.Writing.{Writes};
 ghost use Rattle.raw_grid.specs.Topology.{tile_count};
 ghost use Rattle.raw_picture.specs.Places.{port_lane};
-ghost use Rattle.raw_picture.specs.Ground.{cell_ground, channel_ground, east_ground, south_ground, link_ground, lane_ground};
+ghost use Rattle.raw_picture.specs.Ground.{cell_ground, channel_ground, neighbour_ground, link_ground, lane_ground};
 
 use crate::course::{cell, corner_at, lane};
 use crate::forms::rect;
@@ -40,31 +40,12 @@ fn channel_ground(x: u32, y: u32, width: u32, height: u32) -> Line
     rect(b"link", x, y, width, height, 0)
 }
 
-// The ground of the channel to the neighbour in the east of a tile, where there is one.
-#[tactic(auto, unfolding(crate::specs::Ground::east_ground))]
-fn east_ground(topo: &Topo, t: u32) -> Line
-    requires { t ≤ MAX_PROCS }
-    ensures { result ≡ east_ground topo.now t }
+// The ground of the channel to a neighbour, where there is one.
+fn neighbour_ground(there: bool, x: u32, y: u32, width: u32, height: u32) -> Line
+    ensures { result ≡ neighbour_ground there x y width height }
 {
-    let cols = u32::from(topo.cols());
-    let c = cell(topo, t);
-    if t % cols + 1 < cols {
-        channel_ground(c.x + SWITCH_RIGHT, c.y + SWITCH_TOP, SHORT, CHANNEL)
-    } else {
-        Line::new()
-    }
-}
-
-// The ground of the channel to the neighbour in the south of a tile, where there is one.
-#[tactic(auto, unfolding(crate::specs::Ground::south_ground))]
-fn south_ground(topo: &Topo, t: u32) -> Line
-    requires { t ≤ MAX_PROCS }
-    ensures { result ≡ south_ground topo.now t }
-{
-    let cols = u32::from(topo.cols());
-    let c = cell(topo, t);
-    if t / cols + 1 < u32::from(topo.rows()) {
-        channel_ground(c.x + SOUTH_LEFT, c.y + SWITCH_BOTTOM, CHANNEL, LONG)
+    if there {
+        channel_ground(x, y, width, height)
     } else {
         Line::new()
     }
@@ -76,10 +57,23 @@ pub(crate) fn put_links<K: Sink>(topo: &Topo, t: u32, out: &mut K) -> Result<(),
     requires { t ≤ MAX_PROCS }
     ensures { Writes (K.sight out.old) (K.sight out.new) (link_ground topo.now t) result }
 {
+    let cols = u32::from(topo.cols());
     let c = cell(topo, t);
     let own = channel_ground(c.x + DOWN_LEFT, c.y + BOX_HEIGHT, CHANNEL, SHORT);
-    let east = east_ground(topo, t);
-    let south = south_ground(topo, t);
+    let east = neighbour_ground(
+        t % cols + 1 < cols,
+        c.x + SWITCH_RIGHT,
+        c.y + SWITCH_TOP,
+        SHORT,
+        CHANNEL,
+    );
+    let south = neighbour_ground(
+        t / cols + 1 < u32::from(topo.rows()),
+        c.x + SOUTH_LEFT,
+        c.y + SWITCH_BOTTOM,
+        CHANNEL,
+        LONG,
+    );
     let lines = [own.as_bytes(), east.as_bytes(), south.as_bytes()];
     put_each(out, &lines)
 }

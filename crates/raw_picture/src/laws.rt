@@ -13,7 +13,8 @@ ghost use Rattle.raw_picture.specs.declared.told.Telling.TheVariants.{Sentences}
 ghost use Rattle.raw_picture.specs.Plain.{IsPlain, escape};
 ghost use Rattle.raw_picture.specs.Markup.{HasOnlyItsMarkup};
 ghost use Rattle.raw_picture.specs.Forms.{labelled};
-ghost use Rattle.raw_picture.specs.Names.{name, wait_text, shown_mark};
+ghost use Rattle.raw_names.specs.Names.{processor_name};
+ghost use Rattle.raw_picture.specs.Names.{wait_text, shown_mark};
 ghost use Rattle.raw_picture.specs.Told.{say, all_waits};
 ghost use Rattle.raw_picture.specs.Opening.{title_text, set_text};
 ghost use Rattle.raw_picture.specs.Boxes.{box_title, port_title, port_text};
@@ -38,7 +39,7 @@ pub fn law_no_escapes()
     ensures told { (set : ProgramSet) (s : MachineState) → IsPlain (all_waits Sentences set s) }
     ensures set { (set : ProgramSet) → IsPlain (set_text set) }
     // The boxes of tiles, switches and ports:
-    ensures name { (topo : Topology) (p : ℕ) → IsPlain (name topo p) }
+    ensures name { (topo : Topology) (p : ℕ) → IsPlain (processor_name topo p) }
     ensures mark { (set : ProgramSet) (s : MachineState) (p : ℕ) → IsPlain (mark_of set s p) }
     ensures shown { (set : ProgramSet) (s : MachineState) (p : ℕ) (empty : Bool) → IsPlain (shown_mark set s p empty) }
     ensures labelled { (label : List ℕ) (n : ℕ) → IsPlain label → IsPlain (labelled label n) }

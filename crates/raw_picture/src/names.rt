@@ -5,64 +5,22 @@ ghost use Rattle.raw_grid.specs.Wires.{wires_of};
 ghost use Rattle.raw_model.specs.Waits.{other_end};
 ghost use Rattle.std.specs.List.{position};
 ghost use Rattle.raw_processor.specs.Processor.{local_of};
-ghost use Rattle.raw_model.specs.StateTexts.{mark_of};
 ghost use Rattle.raw_model.specs.Parts.{count_in};
-ghost use Rattle.raw_picture.specs.Names.{port_name, name, wait_text, is_blank, first_word, after_first_word, shown_mark, no_code, no_switch_code, pc_of, pc_at};
+ghost use Rattle.raw_picture.specs.Names.{wait_text, is_blank, first_word, after_first_word, shown_mark, no_code, no_switch_code, pc_of, pc_at};
 
 use crate::course::ends_of;
 use crate::forms::push_labelled;
-use raw_grid::{PortPlace, ProcId, Topo, WireId};
+use raw_grid::{ProcId, Topo, WireId};
 use raw_model::Set;
+use raw_names::push_processor_name;
 use raw_serial::{Machine, Processor};
-use raw_state_text::{LINE_SIZE, Line};
+use raw_state_text::Line;
 
 /// How far a processor is: the steps that it has done, and its pc; a port has pc 0.
 #[derive(Clone, Copy)]
 pub(crate) struct Progress {
     pub(crate) count: u64,
     pub(crate) pc: u32,
-}
-
-// Appends the name of the port at this place.
-fn push_port_name(line: &mut Line, place: PortPlace)
-    requires { length line.old + 52 ≤ LINE_SIZE }
-    ensures text { line.new ≡ line.old ++ port_name (Some place) }
-    ensures len { length line.new ≤ length line.old + 52 }
-{
-    line.push_text(place.kind.text().as_bytes());
-    line.push_text(b" ");
-    line.push_port_place(place);
-}
-
-/// Appends the name of a processor. It has at most 52 bytes.
-#[tactic(auto, unfolding(crate::specs::Names::name))]
-pub(crate) fn push_name(line: &mut Line, topo: &Topo, p: ProcId)
-    requires room { length line.old + 52 ≤ LINE_SIZE }
-    requires there { p.0 < proc_count topo.now }
-    ensures text { line.new ≡ line.old ++ name topo.now p.0 }
-    ensures len { length line.new ≤ length line.old + 52 }
-{
-    let tiles = topo.tiles();
-    if p.0 < tiles {
-        line.push_text(b"tile ");
-        line.push_place(topo, p.0);
-    } else if p.0 < 2 * tiles {
-        line.push_text(b"switch ");
-        line.push_place(topo, p.0 - tiles);
-    } else {
-        push_port_name(line, topo.place_of(p.0 - 2 * tiles));
-    }
-}
-
-// The name of a processor.
-pub(crate) fn name(topo: &Topo, p: ProcId) -> Line
-    requires { p.0 < proc_count topo.now }
-    ensures text { result ≡ name topo.now p.0 }
-    ensures len { length result ≤ 52 }
-{
-    let mut line = Line::new();
-    push_name(&mut line, topo, p);
-    line
 }
 
 // The processor at the other end of a wire that leads to or comes from processor `p`.
@@ -88,10 +46,10 @@ pub(crate) fn wait_text(topo: &Topo, p: ProcId, wire: WireId) -> Line
     ensures len { length result ≤ 144 }
 {
     let mut line = Line::new();
-    push_name(&mut line, topo, p);
+    push_processor_name(&mut line, topo, p);
     push_labelled(&mut line, b" waits on wire ", wire.0);
     line.push_text(b" for ");
-    push_name(&mut line, topo, other_end(topo, p, wire));
+    push_processor_name(&mut line, topo, other_end(topo, p, wire));
     line
 }
 
@@ -126,29 +84,19 @@ pub(crate) fn after_first_word(text: &[u8]) -> &[u8]
     }
 }
 
-/// The mark of a processor.
-pub(crate) fn mark(m: &Machine<'_>, p: ProcId) -> Line
-    requires { p.0 < proc_count m.now.set.topo }
-    ensures text { result ≡ mark_of m.now.set m.now.state p.0 }
-    ensures len { length result ≤ 26 }
-{
-    let mut line = Line::new();
-    line.push_mark(m, p);
-    line
-}
-
 /// The mark that is shown of a tile or a switch.
 pub(crate) fn shown_mark(m: &Machine<'_>, p: ProcId, empty: bool) -> Line
     requires { p.0 < proc_count m.now.set.topo }
     ensures text { result ≡ shown_mark m.now.set m.now.state p.0 empty }
     ensures len { length result ≤ 26 }
 {
+    let mut line = Line::new();
     if empty {
-        let mut line = Line::new();
         line.push_text(b"empty program");
         return line;
     }
-    mark(m, p)
+    line.push_mark(m, p);
+    line
 }
 
 /// Whether the program of a tile is empty.

@@ -108,6 +108,7 @@ fn put_head<K: Sink>(drawn: &Drawn<'_, '_>, sentence: &Line, out: &mut K) -> Res
         page.as_bytes(),
         word.as_bytes(),
         before.as_bytes(),
+        b"\">".as_slice(),
         sentence.as_bytes(),
         b"</text>\n".as_slice(),
         grid.as_bytes(),

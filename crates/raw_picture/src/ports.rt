@@ -14,11 +14,12 @@ use crate::layout::{
     EAST_PORT, LANE, LANES_TOP, NORTH_PORT, PORT_HEIGHT, PORT_LEFT, PORT_WIDTH, SOUTH_PORT,
     WEST_PORT,
 };
-use crate::names::{mark, progress_of, push_name};
+use crate::names::progress_of;
 use crate::told::is_told;
 use raw_grid::{PortKind, PortPlace, ProcId, Side, Topo};
 use raw_io::{Failed, Sink, put_each};
 use raw_model::Set;
+use raw_names::push_processor_name;
 use raw_state_text::Line;
 
 // Where the box of the port at this place stands.
@@ -77,7 +78,7 @@ fn port_title(topo: &Topo, p: ProcId, place: PortPlace, mark: &[u8], done: Done)
     ensures len { length result ≤ 165 }
 {
     let mut line = Line::new();
-    push_name(&mut line, topo, p);
+    push_processor_name(&mut line, topo, p);
     push_labelled(&mut line, b", processor ", p.0);
     line.push_text(b": ");
     line.push_text(mark);
@@ -182,7 +183,8 @@ pub(crate) fn put_port_box<K: Sink>(
     let set = m.set();
     // Ports are the last processors.
     let p = ProcId(set.topo.procs() - set.topo.ports() + i);
-    let mark = mark(m, p);
+    let mut mark = Line::new();
+    mark.push_mark(m, p);
     let done = Done {
         count: progress_of(m, p).count,
         most: most_at(set, i, place.kind),

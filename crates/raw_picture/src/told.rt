@@ -14,9 +14,10 @@ ghost use Rattle.raw_picture.specs.Told.{say, is_told, segment, lead, wait_piece
 use crate::course::{Course, along, wait_course};
 use crate::drawn::Drawn;
 use crate::forms::push_labelled;
-use crate::names::{after_first_word, mark, push_name, wait_text};
-use raw_grid::{ProcId, Topo, WireId};
+use crate::names::{after_first_word, wait_text};
+use raw_grid::{ProcId, WireId};
 use raw_io::{Failed, Sink, put_each};
+use raw_names::push_processor_name;
 use raw_outcome::{Outcome, chain_end};
 use raw_serial::Machine;
 use raw_state_text::{Line, put_line};
@@ -85,9 +86,10 @@ fn say_trapped(m: &Machine<'_>, p: ProcId) -> Line
     requires { p.0 < proc_count m.now.set.topo }
     ensures { result ≡ say m.now.set m.now.state (Trapped p.0) }
 {
-    let mark = mark(m, p);
+    let mut mark = Line::new();
+    mark.push_mark(m, p);
     let mut line = Line::new();
-    push_name(&mut line, &m.set().topo, p);
+    push_processor_name(&mut line, &m.set().topo, p);
     line.push_text(b" is trapped: ");
     line.push_text(after_first_word(mark.as_bytes()));
     line
@@ -101,7 +103,7 @@ fn say_limit(m: &Machine<'_>, p: ProcId) -> Line
 {
     let set = m.set();
     let mut line = Line::new();
-    push_name(&mut line, &set.topo, p);
+    push_processor_name(&mut line, &set.topo, p);
     push_labelled(&mut line, b" has executed its limit of ", set.limit);
     line
 }
@@ -116,9 +118,9 @@ fn say_stuck(m: &Machine<'_>, p: ProcId) -> Line
     let last = chain_end(m, p);
     let mut line = Line::new();
     line.push_text(b"the waits from ");
-    push_name(&mut line, topo, p);
+    push_processor_name(&mut line, topo, p);
     line.push_text(b" end in ");
-    push_name(&mut line, topo, last);
+    push_processor_name(&mut line, topo, last);
     line.push_text(b", ");
     line.push_mark(m, last);
     line

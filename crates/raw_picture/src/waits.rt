@@ -8,7 +8,7 @@ ghost use Rattle.raw_picture.specs.Flows.{wire_tag, wait_arrow, wait_group, wait
 
 use crate::course::{Course, wait_course};
 use crate::drawn::Drawn;
-use crate::forms::{CLOSE, OPEN, arrow, labelled, tag_box, tag_text, title};
+use crate::forms::{CLOSE, OPEN, arrow, tag, title};
 use crate::names::wait_text;
 use crate::told::is_told;
 use raw_grid::{ProcId, Topo, WireId};
@@ -30,10 +30,11 @@ fn put_wait_arrow<K: Sink>(
         return put_each(out, &[thin.as_bytes()]);
     }
     let arrow = arrow(b"wait", course, 2);
-    let area = tag_box(course);
-    let label = labelled(b"wire ", u64::from(wire.0));
-    let text = tag_text(course, label.as_bytes());
-    put_each(out, &[arrow.as_bytes(), area.as_bytes(), text.as_bytes()])
+    let tag = tag(course, wire.0);
+    put_each(
+        out,
+        &[arrow.as_bytes(), tag.area.as_bytes(), tag.text.as_bytes()],
+    )
 }
 
 // Puts the group of the wait of processor `p` on a wire.

@@ -5,11 +5,11 @@ ghost use Rattle.raw_grid.specs.Wires.{wires_of};
 ghost use Rattle.raw_model.specs.Texts.{words_text};
 ghost use Rattle.raw_picture.specs.Flows.{arrow_class, number_class, wire_text, wire_group, wire_drawn};
 
-use crate::course::{ends_of, run_at, wire_course};
-use crate::forms::{CLOSE, OPEN, arrow, labelled, number, push_labelled};
-use crate::names::push_name;
+use crate::course::{along, ends_of, run_of, wire_course};
+use crate::forms::{CLOSE, OPEN, arrow, labelled, push_labelled, text};
 use raw_grid::{Net, ProcId, Topo, WireId};
 use raw_io::{Failed, Sink, put_each};
+use raw_names::push_processor_name;
 use raw_serial::Machine;
 use raw_state_text::Line;
 
@@ -45,11 +45,11 @@ fn wire_text(topo: &Topo, wire: WireId) -> Line
     let mut line = Line::new();
     push_labelled(&mut line, b"wire ", wire.0);
     line.push_text(b", network ");
-    line.push_text(run_at(topo, wire).net.text().as_bytes());
+    line.push_text(run_of(topo, ends).net.text().as_bytes());
     line.push_text(b", from ");
-    push_name(&mut line, topo, ProcId(ends.from));
+    push_processor_name(&mut line, topo, ProcId(ends.from));
     line.push_text(b" to ");
-    push_name(&mut line, topo, ProcId(ends.to));
+    push_processor_name(&mut line, topo, ProcId(ends.to));
     line
 }
 
@@ -76,17 +76,18 @@ fn put_wire_group<K: Sink>(
     ensures { Writes (K.sight out.old) (K.sight out.new)
         (wire_group topo.now wire.0 values.now) result }
 {
-    let run = run_at(topo, wire);
+    let run = run_of(topo, ends_of(topo, wire));
     let course = wire_course(run);
-    let text = wire_text(topo, wire);
+    let said = wire_text(topo, wire);
     let words = words_text(values);
     let arrow = arrow(arrow_class(run.net), course, 15);
     let count = labelled(b"", values.len() as u64);
-    let number = number(number_class(run.net), course, count.as_bytes());
+    let at = along(course, 8);
+    let number = text(number_class(run.net), at.x, at.y + 4, count.as_bytes());
     let lines = [
         OPEN,
         b"<title>".as_slice(),
-        text.as_bytes(),
+        said.as_bytes(),
         b":".as_slice(),
         words.as_bytes(),
         b"</title>\n".as_slice(),
