@@ -10,15 +10,9 @@ use Rattle.raw_grid.specs.Topology.{proc_count}
 use Rattle.raw_model.specs.Program.{ProgramSet, IsSet}
 use Rattle.raw_debug.specs.declared.debugging.DebugRefusal.{DebugRefusal}
 use Rattle.raw_debug.specs.declared.debugging.DebugRefusal.TheVariants.{Fault}
-use Rattle.raw_debug.specs.declared.debugging.Position.{Position}
-use Rattle.raw_debug.specs.declared.copies.Copies.{Copies}
-use Rattle.raw_debug.specs.declared.walk.Walk.{Walk}
-use Rattle.raw_debug.specs.Commands.{LabelPlaces, Meaning, first_processor, led_to, led_by, meaning_of, readings_from, readings, bad_command}
+use Rattle.raw_debug.specs.Commands.{LabelPlaces, Meaning, led_to, led_by, meaning_of, readings_from, readings, bad_command}
 use Rattle.raw_debug.specs.Commands.Meaning.{Blank, Says}
-use Rattle.raw_debug.specs.Walking.{IsFresh, AreOn, IsLedWith}
 use Rattle.raw_debug.specs.Script.{Spot, first_spot, leads_to, moved, moved_by, is_past, script_text_of, line_text, text_from, script_text, IsRunThrough}
-use Rattle.raw_debug.specs.Debugging.{PositionStands, HasMoved}
-use Rattle.raw_debug.proofs.Walks.{fresh_done}
 use Rattle.raw_debug.proofs.Readings.{AreLeft, here, left_is, left_after, found, none_more}
 
 -- what is left to write: what the next line writes, and then, where it does not go past the end, what the others write
@@ -59,33 +53,11 @@ some_tile zero b first second = absurd (omega (arith, first))
 some_tile (suc a) zero first second = absurd (omega (arith, second))
 some_tile (suc a) (suc b) first second = omega arith
 
--- where the machine was led beside its copies, and the current processor is the same
-pub has_moved : (old new : Position) → new.current ≡ old.current → IsLedWith old.walk new.walk new.copies.walks.items → PositionStands old → HasMoved old new old.current
-has_moved old new same went stands = record {
-  set = went.set;
-  current = same;
-  stands = record {
-    under_way = went.under_way;
-    copies = went.copies;
-    there = subst (λ (q : ProcId). q.0 < proc_count new.walk.machine.set.topo) (sym same)
-        (subst (λ (g : ProgramSet). old.current.0 < proc_count g.topo) (sym went.set) stands.there);
-  };
-}
-
--- a machine that starts stands at the first place
-pub fresh_stands : (of : ProgramSet) (walk : Walk) (copies : Copies) → IsFresh of walk → AreOn of copies.walks.items
-    → IsSet walk.machine.set → PositionStands (record { walk = walk; copies = copies; current = record { 0 = 0 } })
-fresh_stands of walk copies fresh are_on valid =
-    let topo = walk.machine.set.topo in
-    let some = some_tile topo.cols topo.rows valid.topology.size.some_cols valid.topology.size.some_rows in
-    record {
-      under_way = ([], fresh_done of walk fresh);
-      copies = subst (λ g. AreOn g copies.walks.items) (sym fresh.set) are_on;
-      there = omega (arith, some);
-    }
-
-pub fresh_spot : (of : ProgramSet) (walk : Walk) → IsFresh of walk → record { moment = walk.moment; current = first_processor } ≡ first_spot
-fresh_spot of walk fresh = ap (λ m. record { moment = m; current = first_processor }) fresh.moment
+-- each set has a processor
+pub some_processor : (set : ProgramSet) → IsSet set → 0 < proc_count set.topo
+some_processor set valid =
+    let some = some_tile set.topo.cols set.topo.rows valid.topology.size.some_cols valid.topology.size.some_rows in
+    omega (arith, some)
 
 -- a write that failed, as the answer tells it
 pub fault_told : {T : Type 0} (labels : LabelPlaces) (set : ProgramSet) (from : ℕ) (lines : List (List (List ℕ))) (old new : Sight) (r : Result T DebugRefusal)

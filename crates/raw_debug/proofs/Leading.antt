@@ -1,21 +1,22 @@
 -- Where a command leads, and where it names more steps than there are.
-use Rattle.std.proofs.Common.{◌≡◌, ℕ, Bool, true, false, Some, None, [], length, refl, sym, ap, ◌∙◌, subst, cond, arith, take_all}
+use Rattle.std.proofs.Common.{◌≡◌, ℕ, ◌<◌, Bool, true, false, Option, Some, None, [], length, refl, sym, ap, ap₂, ◌∙◌, subst, cond, arith, take_all}
 use Rattle.std.specs.Prelude.{nat_lt, if◌then◌else◌}
-use Rattle.std.proofs.lemmas.Bool.{leb-true, leb-false, lt-ltb, le-ltb, le-leb, lt-leb, ltb-true, eq-eqb, ne_eqb, true≢false}
+use Rattle.std.proofs.lemmas.Bool.{leb-true, leb-false, lt-ltb, le-ltb, lt-leb, ltb-true, eq-eqb, ne_eqb}
 use Rattle.raw_network.specs.Network.{count_of}
 use Rattle.raw_grid.specs.declared.parts.ProcId.{ProcId}
+use Rattle.raw_grid.specs.Topology.{proc_count}
 use Rattle.raw_model.specs.Program.{ProgramSet}
-use Rattle.raw_model.specs.Start.{MachineState}
 use Rattle.raw_model.specs.Serial.{serial}
 use Rattle.raw_debug.specs.declared.command.Command.{Command}
-use Rattle.raw_debug.specs.declared.command.Command.TheVariants.{At, Rest}
+use Rattle.raw_debug.specs.declared.command.Command.TheVariants.{At, Count, Until, Last, Rest}
 use Rattle.raw_debug.specs.Commands.{led_to}
 use Rattle.raw_debug.specs.Commands.Meaning.{Says}
 use Rattle.raw_debug.specs.Walking.{up_to, state_after, count_at, moment_of}
 use Rattle.raw_debug.specs.Stops.{stopped_after}
 use Rattle.raw_debug.specs.Answers.{answer}
-use Rattle.raw_debug.specs.Debugging.{IsLed}
-use Rattle.raw_debug.specs.Script.{Spot, leads_to, told, goes_past, script_text_of, line_text}
+use Rattle.raw_debug.specs.Debugging.{IsPossible, IsLed}
+use Rattle.raw_debug.specs.Live.{Session}
+use Rattle.raw_debug.specs.Script.{Spot, leads_to, moved, moved_by, told, goes_past, script_text_of, line_text}
 
 no_moment : (b : Bool) (x : ℕ) → cond b (Some x) None ≡ None → b ≡ false
 no_moment true x e = absurd (cc e)
@@ -50,15 +51,26 @@ pub goes_somewhere : (set : ProgramSet) (spot : Spot) (command : Command) (n : �
 goes_somewhere set spot (At p steps) n e = here_where_some set p.0 steps n e
 goes_somewhere set spot _ n e = refl
 
--- What a command writes that led somewhere, told of the machine's own set, state and current processor.
-pub said_text : (set own : ProgramSet) (spot : Spot) (command : Command) (s : MachineState) (n : ℕ) (p : ProcId) → own ≡ set → p ≡ led_to spot.current command
-    → s ≡ state_after own n → leads_to set spot command ≡ Some n → answer own n s p.0 command ≡ line_text set spot (Says command)
-said_text set own spot command s n p own_is p_is s_is leads =
-    ap (λ t. answer own n t p.0 command) s_is
-    ∙ ap (λ g. answer g n (state_after g n) p.0 command) own_is
+-- What a command writes that led somewhere, told of the machine's own set and current processor.
+pub said_text : (set own : ProgramSet) (spot : Spot) (command : Command) (n : ℕ) (p : ProcId) → own ≡ set → p ≡ led_to spot.current command
+    → leads_to set spot command ≡ Some n → answer own n (state_after own n) p.0 command ≡ line_text set spot (Says command)
+said_text set own spot command n p own_is p_is leads =
+    ap (λ g. answer g n (state_after g n) p.0 command) own_is
     ∙ ap (λ (q : ProcId). answer set n (state_after set n) q.0 command) p_is
     ∙ sym (ap (told set (led_to spot.current command) command) leads)
     ∙ sym (ap (λ b. if b then [] else script_text_of set spot (Says command)) (goes_somewhere set spot command n leads))
+
+-- where a script stands that a command led to this moment, of this set and with this current processor
+pub stands_behind : (set own : ProgramSet) (spot : Spot) (command : Command) (to : Option ℕ) (n : ℕ) (p : ProcId) → own ≡ set → p ≡ led_to spot.current command
+    → leads_to set spot command ≡ to → (moved spot p to).moment ≡ n
+    → ◌≡◌ {A = Session} (record { set = own; spot = record { moment = n; current = p } }) (record { set = set; spot = moved_by set spot (Says command) })
+stands_behind set own spot command to n p own_is p_is leads there =
+    ap₂ (λ (g : ProgramSet) (s : Spot). record { set = g; spot = s }) own_is
+    (ap (λ (m : ℕ). record { moment = m; current = p }) (sym there) ∙ by_end spot p to ∙ ap₂ (λ (q : ProcId) (o : Option ℕ). moved spot q o) p_is (sym leads))
+  where
+    by_end : (old : Spot) (q : ProcId) (o : Option ℕ) → ◌≡◌ {A = Spot} (record { moment = (moved old q o).moment; current = q }) (moved old q o)
+    by_end old q None = refl
+    by_end old q (Some m) = refl
 
 -- the moment to which a command led; a moment of no other set
 pub is_led : (set own : ProgramSet) (spot : Spot) (command : Command) (n : ℕ) → own ≡ set → leads_to set spot command ≡ Some n → IsLed own n command
@@ -68,12 +80,24 @@ is_led set own spot command n same leads = subst (λ g. IsLed g n command) (sym 
     by_command Rest e = let is : length (serial set) ≡ n = cc e in sym is
     by_command _ e = tt
 
+-- the processor that a command makes the current one is there, and can be asked the same
+pub led_there : (set : ProgramSet) (p : ProcId) (command : Command) → p.0 < proc_count set.topo → IsPossible set p.0 command → (led_to p command).0 < proc_count set.topo
+led_there set p (At q steps) there possible = possible
+led_there set p (Count q steps) there possible = possible
+led_there set p (Until q aim) there possible = possible.0
+led_there set p (Last q aim) there possible = possible.0
+led_there set p _ there possible = there
+
+pub still_possible : (set : ProgramSet) (p : ProcId) (command : Command) → IsPossible set p.0 command → IsPossible set (led_to p command).0 command
+still_possible set p (At q steps) possible = possible
+still_possible set p (Count q steps) possible = possible
+still_possible set p (Until q aim) possible = possible
+still_possible set p (Last q aim) possible = possible
+still_possible set p _ possible = possible
+
 -- how many steps a processor has taken at the end of the serial order
-pub count_at_end : (set own : ProgramSet) (p q : ProcId) (n all : ℕ) → own ≡ set → q ≡ p → n ≡ length (serial set) → all ≡ count_at own q.0 n
-    → all ≡ count_of p.0 (serial set)
-count_at_end set own p q n all same proc end is =
-    is ∙ ap (λ g. count_at g q.0 n) same ∙ ap (λ (r : ProcId). count_at set r.0 n) proc
-    ∙ ap (count_of p.0) (take_all n (serial set) (omega (arith, end)))
+pub count_at_end : (set : ProgramSet) (p : ℕ) → count_at set p (length (serial set)) ≡ count_of p (serial set)
+count_at_end set p = ap (count_of p) (take_all (length (serial set)) (serial set) (omega arith))
 
 -- it has taken all of them, or some are left
 module _ (set : ProgramSet) (moment p before all : ℕ) (now : before ≡ count_at set p moment) (end : all ≡ count_of p (serial set)) where
@@ -88,8 +112,3 @@ module _ (set : ProgramSet) (moment p before all : ℕ) (now : before ≡ count_
       ap (λ b. if b then None else moment_of set p (count_of p (serial set)))
       (ne_eqb (count_at set p moment) (count_of p (serial set)) (λ e. other (now ∙ e ∙ sym end)))
       ∙ ap (moment_of set p) (sym end)
-
--- all steps of a processor stand somewhere in the serial order
-pub all_there : (set : ProgramSet) (p : ℕ) → moment_of set p (count_of p (serial set)) ≡ None → ⊥
-unfolding moment_of
-all_there set p e = true≢false (sym (le-leb (count_of p (serial set)) (count_of p (serial set)) (omega arith)) ∙ no_moment _ _ e)

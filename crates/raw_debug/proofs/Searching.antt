@@ -1,6 +1,6 @@
 -- The first step of the serial order that does what is aimed at.
 use Rattle.std.proofs.Common.{◌≡◌, ℕ, zero, suc, ◌+◌, ◌-◌, ◌<◌, ◌≤◌, Bool, true, false, List, [], ◌∷◌, ◌++◌, length, Option, Some, None, take, refl, sym, ap, ap₂, ◌∙◌, subst, ⊎_elim, arith, append_assoc, length-append}
-use Rattle.std.specs.Prelude.{◌&&◌, ◌==◌, not, slice_get, IfSome}
+use Rattle.std.specs.Prelude.{◌&&◌, ◌==◌, not, slice_get}
 use Rattle.std.specs.List.{find, list_any, range_with_len}
 use Rattle.std.specs.Option.{option_map, option_or, option_to_list}
 use Rattle.std.proofs.Math.Seq.{get_or-append_seam}
@@ -150,12 +150,6 @@ sent_next walk new valid same done has q gone one passed w =
 pub none_before : (of : ProgramSet) (p n : ℕ) (aim : Aim) → n ≡ 0 → last_up_to of n p aim ≡ None
 unfolding last_up_to
 none_before of p n aim is = rw is refl
-
--- what was found in a later part of the way, and else what was before
-pub within_or : (o before : Option ℕ) (m n : ℕ) → m ≤ n → IfSome o (λ k. k ≤ n) → IfSome before (λ k. k ≤ m) → IfSome (option_or o before) (λ k. k ≤ n)
-within_or (Some k) before m n le later earlier = later
-within_or None None m n le later earlier = tt
-within_or None (Some k) m n le later earlier = omega (arith, le, earlier)
 
 -- what a look over one part of the way more found, and what was found before, together
 pub found_so_far : (of own : ProgramSet) (p from to at : ℕ) (aim : Aim) (found before both : Option ℕ) → own ≡ of → at ≡ to

@@ -1,6 +1,6 @@
 -- Searches for a step that does what is aimed at, over several steps at a time of which only the last may be one.
-use Rattle.std.proofs.Common.{◌≡◌, ℕ, zero, suc, ◌+◌, ◌-◌, ◌<◌, ◌≤◌, Bool, true, false, Option, Some, None, length, refl, sym, ap, ◌∙◌, subst, ⊎_elim, arith}
-use Rattle.std.specs.Prelude.{◌&&◌, ◌==◌, IfSome, if◌then◌else◌}
+use Rattle.std.proofs.Common.{◌≡◌, ℕ, zero, suc, ◌+◌, ◌-◌, ◌<◌, ◌≤◌, Bool, true, false, Option, Some, None, length, refl, sym, ap, ◌∙◌, ⊎_elim, arith}
+use Rattle.std.specs.Prelude.{◌&&◌, ◌==◌, if◌then◌else◌}
 use Rattle.std.specs.Option.{option_or}
 use Rattle.std.proofs.lemmas.Bool.{cases_lt}
 use Rattle.raw_model.specs.Program.{ProgramSet}
@@ -23,11 +23,10 @@ pub record Looks (of : ProgramSet) (from p : ℕ) (aim : Aim) (walk : Walk) (fou
   pub same : walk.machine.set ≡ of
   pub under_way : IsUnderWay walk
   pub latest : last_up_to of walk.moment p aim ≡ option_or found (last_up_to of from p aim)
-  pub within : IfSome found (λ n. n ≤ walk.moment)
 
 -- the first moment of a look
 pub looks_here : (of : ProgramSet) (p : ℕ) (aim : Aim) (walk : Walk) → walk.machine.set ≡ of → IsUnderWay walk → Looks of walk.moment p aim walk None
-looks_here of p aim walk same way = record { same = same; under_way = way; latest = refl; within = tt }
+looks_here of p aim walk same way = record { same = same; under_way = way; latest = refl }
 
 -- where no number of a stretch passes a test, the latest one is that before it
 latest_before : (test : ℕ → Bool) (a d : ℕ) → ((k : ℕ) → a ≤ k → k < a + d → test k ≡ false) → latest test (a + d) ≡ latest test a
@@ -42,11 +41,6 @@ noted : (b : Bool) (n : ℕ) (found before : Option ℕ) (old : Option ℕ) → 
     → (if b then Some n else old) ≡ option_or (if b then Some n else found) before
 noted true n found before old is = refl
 noted false n found before old is = is
-
-noted_within : (b : Bool) (n m : ℕ) (found : Option ℕ) → m < n → IfSome found (λ k. k ≤ m) → IfSome (if b then Some n else found) (λ k. k ≤ n)
-noted_within true n m found later within = omega arith
-noted_within false n m None later within = tt
-noted_within false n m (Some k) later within = omega (arith, later, within)
 
 module _ (of : ProgramSet) (from p : ℕ) (aim : Aim) (walk new : Walk) (same : walk.machine.set ≡ of) (to : ℕ) (gone : HasGoneOn walk new to) (q : ℕ)
     (seen : OnlyLast walk new q p aim) where
@@ -107,7 +101,6 @@ module _ (of : ProgramSet) (from p : ℕ) (aim : Aim) (walk new : Walk) (same : 
       latest = next_latest b (new.moment - walk.moment - 1) (omega (arith, gone.later)) met
           ∙ noted b new.moment found (last_up_to of from p aim) (last_up_to of walk.moment p aim) look.latest
           ∙ ap (λ o. option_or o (last_up_to of from p aim)) (sym is);
-      within = subst (λ o. IfSome o (λ k. k ≤ new.moment)) (sym is) (noted_within b new.moment walk.moment found gone.later look.within);
     }
 
 -- There is no next step.

@@ -136,14 +136,6 @@ module _ (walk : Walk) (valid : IsSet walk.machine.set) (done : List ℕ) (has :
   pub moment_at_rest : IsQuiet walk.machine.set walk.machine.state → walk.moment ≡ length (serial walk.machine.set)
   moment_at_rest quiet = has.many ∙ ap length (at_rest walk.machine.set walk.machine.state walk.next done has.at.place valid quiet)
 
-  -- at the end of the serial order no processor is enabled
-  pub quiet_at_end : IsQuiet walk.machine.set (end walk.machine.set (serial walk.machine.set)) → walk.moment ≡ length (serial walk.machine.set)
-      → IsQuiet walk.machine.set walk.machine.state
-  quiet_at_end quiet last =
-      let set = walk.machine.set in
-      let all : serial set ≡ done = sym (take_all walk.moment (serial set) (omega (arith, last))) ∙ front_is in
-      subst (IsQuiet set) (ap (end set) all ∙ has.at.place.there) quiet
-
   pub count_in : (p n : ℕ) → p < proc_count walk.machine.set.topo → IsSomeAnd (slice_get walk.machine.state.locals p) (λ l. n ≡ steps_of l)
       → n ≡ count_of p done
   count_in p n within is = count_is walk.machine.set valid done walk.machine.state p n has.at.place.there within is

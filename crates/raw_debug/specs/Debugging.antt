@@ -1,6 +1,5 @@
--- Where the debugger stands, and what its commands ask for.
-use Rattle.std.specs.Prelude.{◌≡◌, ℕ, ◌+◌, ◌*◌, ◌<◌, ◌≤◌, Bool, true, false, Option, length}
-use Rattle.raw_grid.specs.declared.parts.ProcId.{ProcId}
+-- What commands ask for.
+use Rattle.std.specs.Prelude.{◌≡◌, ℕ, ◌+◌, ◌*◌, ◌<◌, ◌≤◌, Bool, true, false, length}
 use Rattle.raw_grid.specs.Topology.{tile_count, proc_count}
 use Rattle.raw_grid.specs.Wires.{wires_of, producer_of}
 use Rattle.raw_model.specs.Program.{ProgramSet, memory_size}
@@ -11,10 +10,8 @@ use Rattle.raw_debug.specs.declared.command.Command.{Command}
 use Rattle.raw_debug.specs.declared.command.Command.TheVariants.{At, Count, Until, Last, Rest, Memory, Passed}
 use Rattle.raw_debug.specs.declared.command.Reading.{Reading}
 use Rattle.raw_debug.specs.declared.command.Reading.TheVariants.{Says}
-use Rattle.raw_debug.specs.declared.debugging.Position.{Position}
 use Rattle.raw_debug.specs.declared.walk.Walk.{Walk}
-use Rattle.raw_debug.specs.Walking.{led, IsUnderWay, AreOn}
-use Rattle.raw_debug.specs.Script.{Spot}
+use Rattle.raw_debug.specs.Walking.{IsUnderWay}
 
 -- what is aimed at can be asked of processor p: a wire that comes from it, a word of a tile's memory
 abbrev pub IsPossibleAim : ProgramSet → ℕ → Aim → Type 0
@@ -66,24 +63,3 @@ IsLed set moment _ = Unit {0}
 abbrev pub IsPossibleReading : ProgramSet → ℕ → Reading → Type 0
 IsPossibleReading set p (Says command) = IsPossible set p command
 IsPossibleReading set p _ = Unit {0}
-
--- where the script stands that a debugger runs
-abbrev pub spot_of : Position → Spot
-spot_of position = record { moment = position.walk.moment; current = position.current }
-
--- its machine has taken so many steps of the serial order, and its copies stand somewhere in that order
-pub record PositionStands (position : Position) : Type 0 where
-  pub under_way : IsUnderWay position.walk
-  pub copies : AreOn position.walk.machine.set position.copies.walks.items
-  pub there : position.current.0 < proc_count position.walk.machine.set.topo
-
--- one became the other by what it was asked for: of the same set, with this current processor
-pub record HasMoved (old new : Position) (proc : ProcId) : Type 0 where
-  pub set : new.walk.machine.set ≡ old.walk.machine.set
-  pub current : new.current ≡ proc
-  pub stands : PositionStands new
-
--- it led to a moment, or nowhere, and then it stayed where it was
-pub record HasLed (to : Option ℕ) (done : Bool) (was is : ℕ) : Type 0 where
-  pub there : to ≡ led done is
-  pub stays : done ≡ false → is ≡ was

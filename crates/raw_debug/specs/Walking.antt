@@ -90,16 +90,24 @@ pub record StandsWith (walk : Walk) (kept : List Walk) : Type 0 where
   pub under_way : IsUnderWay walk
   pub copies : AreOn walk.machine.set kept
 
--- it was led elsewhere in that order, where these are its copies
-pub record IsLedWith (old new : Walk) (kept : List Walk) : Type 0 where
-  pub set : new.machine.set ≡ old.machine.set
-  pub under_way : IsUnderWay new
-  pub copies : AreOn new.machine.set kept
+-- a moment of the serial order of a set
+pub record Instant : Type 0 where
+  pub set : ProgramSet
+  pub moment : ℕ
+
+-- that at which the machine of a walk stands
+abbrev pub instant_of : Walk → Instant
+instant_of walk = record { set = walk.machine.set; moment = walk.moment }
 
 -- where a walk led: to a moment, or nowhere
 abbrev pub led : Bool → ℕ → Option ℕ
 led true moment = Some moment
 led false moment = None
+
+-- one became the other by what led there, if it leads anywhere
+pub record HasLed (old new : Instant) (to : Option ℕ) (done : Bool) : Type 0 where
+  pub set : new.set ≡ old.set
+  pub there : to ≡ led done new.moment
 
 -- none of the processors from one number up to another is enabled
 abbrev pub NoneEnabled : ProgramSet → MachineState → ℕ → ℕ → Type 0

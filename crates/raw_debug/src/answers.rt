@@ -9,7 +9,7 @@ ghost use Rattle.raw_model.specs.Machine.{tile_code, switch_code};
 ghost use Rattle.raw_model.specs.Outcomes.{outcome};
 ghost use Rattle.raw_model.specs.Serial.{serial};
 ghost use Rattle.raw_report.specs.Report.{outcome_lines};
-ghost use Rattle.raw_debug.specs.Walking.{sent_by, IsUnderWay, IsOn};
+ghost use Rattle.raw_debug.specs.Walking.{state_after, sent_by};
 ghost use Rattle.raw_debug.specs.Answers.{place_lines, local_lines, memory_lines, wire_lines, wait_lines, tile_text, switch_text, next_tile_text, next_switch_text, next_text, where_line, lines_from, code_lines, passed_line, answer, echo_line};
 ghost use Rattle.raw_debug.specs.Debugging.{shows_here, IsPossible, IsLed};
 
@@ -19,7 +19,7 @@ use crate::lines::{
     sent_line, switch_code_line, switch_registers_line, tile_code_line, word_line,
 };
 use crate::tokens::Tokens;
-use crate::walk::Walk;
+use crate::trail::Trail;
 use raw_grid::{ProcId, WireId};
 use raw_io::{Failed, Sink, put_each};
 use raw_model::{Set, law_serial};
@@ -248,15 +248,12 @@ fn put_where<K: Sink>(m: &Machine<'_>, p: ProcId, out: &mut K) -> Result<(), Fai
 }
 
 // Puts how a machine came to rest that stands at the end of the serial order.
-fn put_rest<K: Sink>(walk: &Walk<'_>, out: &mut K) -> Result<(), Failed>
-    requires under_way { IsUnderWay walk.now }
-    requires end { walk.now.moment ≡ length (serial walk.now.machine.set) }
+fn put_rest<K: Sink>(m: &Machine<'_>, out: &mut K) -> Result<(), Failed>
+    requires { m.now.state ≡ state_after m.now.set (length (serial m.now.set)) }
     ensures { Writes (K.sight out.old) (K.sight out.new)
-        (outcome_lines walk.now.machine.set walk.now.machine.state
-        (outcome walk.now.machine.set walk.now.machine.state)) result }
+        (outcome_lines m.now.set m.now.state (outcome m.now.set m.now.state)) result }
 {
     law_serial();
-    let m = &walk.machine;
     // The set is asked for so that it is known to keep its rules.
     let _set = m.set();
     put_outcome(m, outcome(m), out)
@@ -296,15 +293,13 @@ pub(crate) fn put_echo<L: Tokens, K: Sink>(line: &L, out: &mut K) -> Result<bool
 }
 
 // Puts what was sent on a wire up to where a machine stands.
-fn put_passed<K: Sink>(walk: &mut Walk<'_>, wire: WireId, out: &mut K) -> Result<(), Failed>
-    requires under_way { IsUnderWay walk.old }
-    requires there { wire.0 < length (wires_of walk.old.machine.set.topo) }
-    ensures on { IsOn walk.old.machine.set walk.new }
-    ensures moment { walk.new.moment ≡ walk.old.moment }
+fn put_passed<K: Sink>(trail: &mut Trail<'_>, wire: WireId, out: &mut K) -> Result<(), Failed>
+    requires { wire.0 < length (wires_of trail.old.set.topo) }
+    ensures stays { trail.new ≡ trail.old }
     ensures writes { Writes (K.sight out.old) (K.sight out.new)
-        (passed_line wire.0 (sent_by walk.old.machine.set walk.old.moment wire.0)) result }
+        (passed_line wire.0 (sent_by trail.old.set trail.old.moment wire.0)) result }
 {
-    let sent = walk.sent_on(wire);
+    let sent = trail.sent_on(wire);
     put_line(&passed_line(wire, &sent), out)
 }
 
@@ -346,23 +341,21 @@ fn put_shown<K: Sink>(
 /// Puts what a command writes that led to where a machine stands, with this processor as the current one. It takes no
 /// memory.
 pub(crate) fn put_answer<K: Sink>(
-    walk: &mut Walk<'_>,
+    trail: &mut Trail<'_>,
     p: ProcId,
     command: Command,
     out: &mut K,
 ) -> Result<(), Failed>
-    requires under_way { IsUnderWay walk.old }
-    requires there { p.0 < proc_count walk.old.machine.set.topo }
-    requires possible { IsPossible walk.old.machine.set p.0 command }
-    requires led { IsLed walk.old.machine.set walk.old.moment command }
-    ensures on { IsOn walk.old.machine.set walk.new }
-    ensures moment { walk.new.moment ≡ walk.old.moment }
+    requires there { p.0 < proc_count trail.old.set.topo }
+    requires possible { IsPossible trail.old.set p.0 command }
+    requires led { IsLed trail.old.set trail.old.moment command }
+    ensures stays { trail.new ≡ trail.old }
     ensures writes { Writes (K.sight out.old) (K.sight out.new)
-        (answer walk.old.machine.set walk.old.moment walk.old.machine.state p.0 command) result }
+        (answer trail.old.set trail.old.moment (state_after trail.old.set trail.old.moment) p.0 command) result }
 {
     match command {
-        Command::Passed { wire } => put_passed(walk, wire, out),
-        Command::Rest => put_rest(walk, out),
-        _ => put_shown(&walk.machine, p, command, out),
+        Command::Passed { wire } => put_passed(trail, wire, out),
+        Command::Rest => put_rest(trail.machine(), out),
+        _ => put_shown(trail.machine(), p, command, out),
     }
 }

@@ -9,7 +9,6 @@
 
 mod answers;
 mod command;
-mod copies;
 mod debugger;
 mod debugging;
 mod laws;
@@ -18,6 +17,7 @@ mod passing;
 mod reading;
 mod sent;
 mod tokens;
+mod trail;
 mod walk;
 
 pub use debugger::Debugger;

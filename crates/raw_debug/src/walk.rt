@@ -444,7 +444,6 @@ impl Walk<'_> {
         ensures on { IsOn self.old.machine.set self.new }
         ensures latest { last_up_to self.old.machine.set moment proc.0 aim
             ≡ option_or result (last_up_to self.old.machine.set self.old.moment proc.0 aim) }
-        ensures within { IfSome result (λ n. n ≤ moment) }
         ensures moment { self.new.moment ≡ moment }
     {
         self.pass_stopped();

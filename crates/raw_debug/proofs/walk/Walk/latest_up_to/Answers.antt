@@ -1,5 +1,5 @@
-use Rattle.std.proofs.Common.{◌≡◌, ◌≤◌, length, None, ap, subst, ◌∙◌, arith}
-use Rattle.std.specs.Prelude.{◌&&◌, ◌==◌, IfSome}
+use Rattle.std.proofs.Common.{◌≡◌, length, None, ap, subst, ◌∙◌, arith}
+use Rattle.std.specs.Prelude.{◌&&◌, ◌==◌}
 use Rattle.raw_model.specs.Serial.{serial}
 use Rattle.raw_debug.specs.Stops.{shows, last_up_to}
 use Rattle.raw_debug.proofs.Seen.{Looks, looks_here, looks_on}
@@ -48,11 +48,6 @@ returns-clause-latest c =
     let look = c.steps.invariant.look in
     let there : c.args.moment ≡ c.steps.self.moment = omega (arith, c.steps.invariant.upto, c.steps-test.false) in
     ap (λ n. last_up_to of n c.args.proc.0 c.args.aim) there ∙ look.latest
-
-pub returns-clause-within : goal.returns-clause-within
-returns-clause-within c =
-    let there : c.steps.self.moment ≡ c.args.moment = omega (arith, c.steps.invariant.upto, c.steps-test.false) in
-    subst (λ m. IfSome c.steps.latest (λ n. n ≤ m)) there c.steps.invariant.look.within
 
 pub returns-clause-moment : goal.returns-clause-moment
 returns-clause-moment c = omega (arith, c.steps.invariant.upto, c.steps-test.false)

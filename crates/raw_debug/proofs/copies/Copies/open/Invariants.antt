@@ -1,5 +1,0 @@
-use Rattle.raw_debug.specs.Walking.{AreOn}
-use Rattle.raw_debug.proofs.copies.Copies.open.Given as goal
-
-abbrev pub invariant-loop-copy : goal.invariant-loop-copy
-invariant-loop-copy l = AreOn l.set l.walks.items
