@@ -1,5 +1,5 @@
 -- A stream that is unrolled node by node, with one more, and with a row that is done.
-use Rattle.std.proofs.Common.{◌≡◌, ◌≢◌, ℕ, zero, suc, ◌+◌, ◌-◌, ◌*◌, ◌<◌, ◌≤◌, Bool, true, false, cond, eqb, List, [], ◌∷◌, ◌++◌, length, get_or, map, take, set, replicate, Some, refl, sym, ap, ◌∙◌, subst, arith, ⊎_elim, append_assoc, append-nil}
+use Rattle.std.proofs.Common.{◌≡◌, ◌≢◌, ℕ, zero, suc, ◌+◌, ◌-◌, ◌*◌, ◌^◌, ◌<◌, ◌≤◌, Bool, true, false, cond, eqb, List, [], ◌∷◌, ◌++◌, length, get_or, map, take, set, replicate, Some, refl, sym, ap, ◌∙◌, subst, arith, ⊎_elim, append_assoc, append-nil}
 use Rattle.std.specs.Prelude.{slice_get, slice_index, sum_by}
 use Rattle.std.specs.List.{flat_map, range_with_len}
 use Rattle.std.proofs.lemmas.Bool.{eqb-true, eqb-false, eq-eqb, cases_lt}
@@ -13,7 +13,7 @@ use Rattle.raw_flow.specs.declared.node.Node.TheVariants as flow_node
 use Rattle.raw_flow.specs.declared.limits.TheConstants.{MAX_NODES}
 use Rattle.raw_stream.specs.declared.row_node.RowNode.{RowNode}
 use Rattle.raw_stream.specs.declared.row_node.RowNode.TheVariants.{Input, Const, Apply, Pre}
-use Rattle.raw_stream.specs.Streams.{Stream, AreNamed}
+use Rattle.raw_stream.specs.Streams.{Stream}
 use Rattle.raw_stream.specs.Unrolled.{takes, width, rank, first, word_count, word_place, own, first_place, later_place, place, node_at, row_nodes, unrolled}
 use Rattle.raw_stream.proofs.Sums.{range_push}
 use Rattle.raw_stream.proofs.Places.{many_inputs, place_const, place_apply}
@@ -81,7 +81,7 @@ among s k w r less within =
     let below = mul-add-lt k (length s.nodes) w r less within in
     omega (arith, below, turned)
 
-pub within_all : (s : Stream) (r : ℕ) → Fits s → r < s.count → r * length s.nodes + length s.nodes ≤ MAX_NODES
+within_all : (s : Stream) (r : ℕ) → Fits s → r < s.count → r * length s.nodes + length s.nodes ≤ MAX_NODES
 within_all s r fits row = by (length s.nodes) refl where
   by : (n : ℕ) → length s.nodes ≡ n → r * length s.nodes + length s.nodes ≤ MAX_NODES
   by zero none = rw none (omega arith)
@@ -95,8 +95,9 @@ module _ (u : Unrolling) (s : Stream) (r v : ℕ) (is : IsUnrolled u s r v) wher
   begins begin e = omega (arith, e, is.many)
 
   -- the place at which the next node comes
-  pub next_own : v ≤ length s.nodes → length u.nodes.items ≡ own s r v
-  next_own within =
+  next_own : (node : RowNode) → slice_get s.nodes v ≡ Some node → length u.nodes.items ≡ own s r v
+  next_own node e =
+      let within : v ≤ length s.nodes = omega (arith, slice_get_within s.nodes v node e) in
       let inputs : length (replicate (word_count s) flow_node.Input) ≡ word_count s = many_inputs (word_count s) in
       let rows : length (flat_map (row_nodes s) (range_with_len 0 r)) ≡ r * length s.nodes = rows_long s r 0 in
       let front : length (map (node_at s r) (take v s.nodes)) ≡ v = length-map (take v s.nodes) (node_at s r) ∙ length-take-le v s.nodes within in
@@ -104,24 +105,27 @@ module _ (u : Unrolling) (s : Stream) (r v : ℕ) (is : IsUnrolled u s r v) wher
       ∙ length-append (replicate (word_count s) flow_node.Input) (flat_map (row_nodes s) (range_with_len 0 r) ++ map (node_at s r) (take v s.nodes))
       ∙ omega (arith, inputs, rows, front, length-append (flat_map (row_nodes s) (range_with_len 0 r)) (map (node_at s r) (take v s.nodes)))
 
+  pub next_few : (node : RowNode) → r < s.count → slice_get s.nodes v ≡ Some node → length u.nodes.items < 2 ^ 32
+  next_few node row e = omega (arith, within_all s r is.fits row, next_own node e, slice_get_within s.nodes v node e, is.fits.few)
+
   -- where a value is found
-  pub const_place : (named : AreNamed s) (word : ℕ) → v ≤ length s.nodes → slice_get s.nodes v ≡ Some (Const word) → length u.nodes.items ≡ place s r v
-  const_place named word within e = next_own within ∙ sym (place_const s named r word v e)
+  pub const_place : (word : ℕ) → slice_get s.nodes v ≡ Some (Const word) → length u.nodes.items ≡ place s r v
+  const_place word e = next_own (Const word) e ∙ sym (place_const s is.fits.named r word v e)
 
-  pub apply_place : (named : AreNamed s) (op : FlowOp) (a b : ℕ) → v ≤ length s.nodes → slice_get s.nodes v ≡ Some (Apply op a b) → length u.nodes.items ≡ place s r v
-  apply_place named op a b within e = next_own within ∙ sym (place_apply s named r v op a b e)
+  pub apply_place : (op : FlowOp) (a b : ℕ) → slice_get s.nodes v ≡ Some (Apply op a b) → length u.nodes.items ≡ place s r v
+  apply_place op a b e = next_own (Apply op a b) e ∙ sym (place_apply s is.fits.named r v op a b e)
 
-  pub pre_found : (begin a word : ℕ) → v ≤ length s.nodes → slice_get s.nodes v ≡ Some (Pre a word) → a < length s.nodes → begin ≡ r * length s.nodes → pre_place u (length s.nodes) r begin a ≡ place s r v
-  pre_found begin a word within e low begin_at = by (eqb r 0) refl where
+  pub pre_found : (begin a word : ℕ) → slice_get s.nodes v ≡ Some (Pre a word) → begin ≡ r * length s.nodes → pre_place u (length s.nodes) r begin a ≡ place s r v
+  pre_found begin a word e begin_at = by (eqb r 0) refl where
     by : (b : Bool) → eqb r 0 ≡ b → cond b (length u.nodes.items) (slice_index u.places.items (begin - length s.nodes + a)) ≡ place s r v
     by true none =
         let same : r ≡ 0 = eqb-true r 0 none in
-        next_own within ∙ ap (λ k. own s k v) same ∙ sym (place_first s v a word e) ∙ ap (λ k. place s k v) (sym same)
+        next_own (Pre a word) e ∙ ap (λ k. own s k v) same ∙ sym (place_first s v a word e) ∙ ap (λ k. place s k v) (sym same)
     by false some =
         let later : 0 < r = let differ : r ≢ 0 = eqb-false r 0 some in omega (arith, differ) in
         let before = row_before r (length s.nodes) later in
         let at : begin - length s.nodes + a ≡ (r - 1) * length s.nodes + a = omega (arith, begin_at, before) in
-        ap (slice_index u.places.items) at ∙ is.before (r - 1) a (omega (arith, later)) low ∙ sym (place_later s r v a word later e)
+        ap (slice_index u.places.items) at ∙ is.before (r - 1) a (omega (arith, later)) (is.fits.named.nodes v (Pre a word) e).0 ∙ sym (place_later s r v a word later e)
 
   -- the node that stands for one of the row
   pub node_made : (begin : ℕ) (node : RowNode) → begin ≡ r * length s.nodes → AreThere begin (length u.places.items) node → node_of u.places.items begin node ≡ node_at s r node
@@ -181,18 +185,18 @@ module _ (u : Unrolling) (s : Stream) (r v : ℕ) (is : IsUnrolled u s r v) wher
     }
 
 -- what an operation names has its place
-pub are_there : (u : Unrolling) (s : Stream) (r v begin : ℕ) (node : RowNode) → IsUnrolled u s r v → AreNamed s → slice_get s.nodes v ≡ Some node → begin ≡ r * length s.nodes → AreThere begin (length u.places.items) node
-are_there u s r v begin (Input q) is named e at = tt
-are_there u s r v begin (Const word) is named e at = tt
-are_there u s r v begin (Apply op a b) is named e at =
-    let below = named.nodes v (Apply op a b) e in (omega (arith, below.0, at, is.many), omega (arith, below.1, at, is.many))
-are_there u s r v begin (Pre a word) is named e at = tt
+pub are_there : (u : Unrolling) (s : Stream) (r v begin : ℕ) (node : RowNode) → IsUnrolled u s r v → slice_get s.nodes v ≡ Some node → begin ≡ r * length s.nodes → AreThere begin (length u.places.items) node
+are_there u s r v begin (Input q) is e at = tt
+are_there u s r v begin (Const word) is e at = tt
+are_there u s r v begin (Apply op a b) is e at =
+    let below = is.fits.named.nodes v (Apply op a b) e in (omega (arith, below.0, at, is.many), omega (arith, below.1, at, is.many))
+are_there u s r v begin (Pre a word) is e at = tt
 
 -- the words that a node takes
-pub took : (old new : Unrolling) (s : Stream) (r v p : ℕ) → IsUnrolled old s r v → p < length s.sources → slice_get s.nodes v ≡ Some (Input p) → Takes old new p → IsNext old new s r v
-took old new s r v p is within e takes = record {
+pub took : (old new : Unrolling) (s : Stream) (r v p : ℕ) → IsUnrolled old s r v → slice_get s.nodes v ≡ Some (Input p) → Takes old new p → IsNext old new s r v
+took old new s r v p is e takes = record {
   sources = ap length takes.next ∙ length-set old.next.items p (slice_index old.next.items p + 1) ∙ is.sources;
-  next = λ q below. ap (λ xs. slice_index xs q) takes.next ∙ input_next s r v p old.next.items is.sources within e is.next q below;
+  next = λ q below. ap (λ xs. slice_index xs q) takes.next ∙ input_next s r v p old.next.items is.sources (is.fits.named.nodes v (Input p) e) e is.next q below;
   places = takes.places;
   nodes = takes.nodes;
 }

@@ -3,7 +3,7 @@ use Rattle.std.proofs.Common.{◌≡◌, ℕ, zero, suc, ◌+◌, ◌*◌, ◌<�
 use Rattle.std.specs.Prelude.{slice_index, sum_by}
 use Rattle.std.specs.List.{All, flat_map, filter_map, cons_option, range_with_len}
 use Rattle.std.proofs.lemmas.Bool.{cases_eq, eq-eqb, ne_eqb}
-use Rattle.std.proofs.lemmas.List.{append-nil, length-append, length-map}
+use Rattle.std.proofs.lemmas.List.{append-nil, length-append, length-map, length-replicate}
 use Rattle.std.proofs.lemmas.List.Elements.{All-nil, All-cons, All-head, All-tail, All-append}
 use Rattle.std.proofs.lemmas.List.FromFn.{length-map-range_with_len}
 use Rattle.std.proofs.lemmas.List.Sums.{sum_by-cons}
@@ -55,17 +55,6 @@ module _ {X : Type 0} (f : ℕ → List X) (counts : ℕ → ℕ) (each : (p : �
       ∙ ⊎_elim (λ (e : a ≡ q). own_block q a (f a) (flat_map f (range_with_len (a + 1) n)) (turns counts (a + 1) n) e ∙ ap (λ ys. f a ++ ys) (none_there (a + 1) n (omega (arith, e))) ∙ append-nil (f a) ∙ ap f e)
       (λ (ne : a ≡ q → ⊥). other_block q a (f a) (flat_map f (range_with_len (a + 1) n)) (turns counts (a + 1) n) ne ∙ turn_of (a + 1) n (omega (arith, ne)) (omega arith)) (cases_eq a q)
 
--- ---- how many there are, and that each is below the number of ports
-pub replicate_long : (m p : ℕ) → length (replicate m p) ≡ m
-replicate_long zero p = refl
-replicate_long (suc m) p = ap suc (replicate_long m p)
-
-pub replicate_more : (m p : ℕ) → replicate (m + 1) p ≡ replicate m p ++ p ∷ []
-replicate_more zero p = refl
-replicate_more (suc m) p =
-    let more : suc m + 1 ≡ suc (m + 1) = omega arith in
-    ap (λ k. replicate k p) more ∙ ap (λ ps. p ∷ ps) (replicate_more m p)
-
 below_all : (n p m : ℕ) → p < n → All (λ q. q < n) (replicate m p)
 below_all n p zero h = All-nil (λ q. q < n)
 below_all n p (suc m) h = All-cons (λ q. q < n) p (replicate m p) h (below_all n p m h)
@@ -112,7 +101,7 @@ each_own s words q h =
 pub goes_long : (s : Stream) → length (in_turn (due_count s) (length s.sinks)) ≡ length (unrolled s).outs
 goes_long s =
     same_long (λ q. replicate (due_count s q) q) (due_places s) (range_with_len 0 (length s.sinks))
-    (λ q. replicate_long (due_count s q) q ∙ sym (places_long s q s.count 0))
+    (λ q. length-replicate (due_count s q) q ∙ sym (places_long s q s.count 0))
 
 pub comes_long : (s : Stream) (n : ℕ) → length (in_turn (λ q. s.count * width s q) n) ≡ first s n
 comes_long s zero = refl
@@ -123,7 +112,7 @@ comes_long s (suc n) =
     ap (λ k. length (in_turn (λ q. s.count * width s q) k)) more
     ∙ ap length (range_more (λ q. replicate (s.count * width s q) q) n)
     ∙ length-append front last
-    ∙ ap (λ k. k + length last) (comes_long s n) ∙ ap (λ k. first s n + k) (replicate_long (s.count * width s n) n)
+    ∙ ap (λ k. k + length last) (comes_long s n) ∙ ap (λ k. first s n + k) (length-replicate (s.count * width s n) n)
 
 -- ---- there are no more outs in a row than the sinks are due in all
 abbrev dues : List StreamOut → ℕ → ℕ → ℕ

@@ -1,37 +1,37 @@
-use Rattle.std.proofs.Common.{◌≡◌, ℕ, List, length, Some, ◌<◌, ◌≤◌, refl, sym, ap, ◌∙◌, arith}
-use Rattle.std.specs.Prelude.{slice_get}
+use Rattle.std.proofs.Common.{◌≡◌, ◌<◌, length, ap, ◌∙◌, arith}
 use Rattle.raw_grid.specs.Wires.{wires_of}
 use Rattle.raw_model.specs.Program.{ProgramSet}
-use Rattle.raw_trace.specs.Whole.{sent_line, distances_line, distance_pieces}
+use Rattle.raw_trace.specs.Whole.{sent_line, distances_line}
 use Rattle.raw_whole.proofs.Lists.{stands}
-use Rattle.raw_state_text.proofs.Sections.{one_more, failed, all_written, next_number, no_number, same_text}
+use Rattle.raw_state_text.proofs.Sections.{same_text, failed_numbered, more_numbered, all_numbered}
+use Rattle.raw_whole.proofs.writing.put_wires.Given.{Over}
 use Rattle.raw_whole.proofs.writing.put_wires.Goals as goal
+use Rattle.raw_whole.proofs.writing.put_wires.Goals.{After-deref, After-wires-wires}
+
+many : (g : Over) (c : After-wires-wires g) → c.wires-wires.result ≡ length (wires_of c.args.run.now.machine.now.set.topo)
+many g c = c.wires-wires.ensures.value ∙ ap (λ (s : ProgramSet). length (wires_of s.topo)) (c.set.view_is ∙ c.set-set.ensures.value)
+
+-- the line of the next wire
+line : (g : Over) (c : After-deref g) → distances_line c.all.w c.deref.result.now ≡ sent_line c.args.run.now.machine.now.set c.args.run.now.cycles c.all.w
+line g c =
+    let run = c.args.run.now in
+    let many : c.wires-wires.result ≡ length (wires_of run.machine.now.set.topo) = c.wires-wires.ensures.value ∙ ap (λ (s : ProgramSet). length (wires_of s.topo)) (c.set.view_is ∙ c.set-set.ensures.value) in
+    let lt : c.all.w < length (wires_of run.machine.now.set.topo) = omega (arith, c.all-test.true, many) in
+    let here = stands run.whole.now.sends.items c.all.w c.index-kept.result.now (omega (arith, lt, run.keeps.each_wire)) c.index-kept.ensures in
+    ap (distances_line c.all.w) (c.deref.ensures.value ∙ run.keeps.sends c.all.w c.index-kept.result.now here)
 
 pub returns-in_err-put_wire : goal.returns-in_err-put_wire
 returns-in_err-put_wire g c =
-    let set = c.args.run.now.machine.now.set in
-    let text : ℕ → List ℕ = sent_line set c.args.run.now.cycles in
-    let many : c.wires-wires.result ≡ length (wires_of set.topo) = c.wires-wires.ensures.value ∙ ap (λ (s : ProgramSet). length (wires_of s.topo)) (c.set.view_is ∙ c.set-set.ensures.value) in
-    let lt : c.all.w < length (wires_of set.topo) = omega (arith, c.all-test.true, many) in
-    let kept = c.index-kept.result.now in
-    let here = stands c.args.run.now.whole.now.sends.items c.all.w kept (omega (arith, lt, c.args.run.now.keeps.each_wire)) c.index-kept.ensures in
-    failed _ _ _ _ _ _ _ c.all.invariant (next_number text (length (wires_of set.topo)) c.all.w lt) _
-    c.from_residual.result c.from_residual.ensures.0 (same_text _ _ _ _ _ (ap (distances_line c.all.w) (c.deref.ensures.value ∙ c.args.run.now.keeps.sends c.all.w kept here)) c.in_err-put_wire.ensures)
+    let at = goal.at.returns-in_err-put_wire g c in
+    failed_numbered _ (length (wires_of c.args.run.now.machine.now.set.topo)) _ c.all.invariant (omega (arith, c.all-test.true, many g at.After-wires-wires))
+    (same_text _ _ _ _ _ (line g at.After-deref) c.in_err-put_wire.ensures) c.from_residual.ensures.0
 
 pub all-preserved : goal.all-preserved
 all-preserved g c =
-    let set = c.args.run.now.machine.now.set in
-    let text : ℕ → List ℕ = sent_line set c.args.run.now.cycles in
-    let many : c.wires-wires.result ≡ length (wires_of set.topo) = c.wires-wires.ensures.value ∙ ap (λ (s : ProgramSet). length (wires_of s.topo)) (c.set.view_is ∙ c.set-set.ensures.value) in
-    let lt : c.all.w < length (wires_of set.topo) = omega (arith, c.all-test.true, many) in
-    let kept = c.index-kept.result.now in
-    let here = stands c.args.run.now.whole.now.sends.items c.all.w kept (omega (arith, lt, c.args.run.now.keeps.each_wire)) c.index-kept.ensures in
-    one_more _ _ _ _ _ _ _ c.all.invariant (next_number text (length (wires_of set.topo)) c.all.w lt) _ (same_text _ _ _ _ _ (ap (distances_line c.all.w) (c.deref.ensures.value ∙ c.args.run.now.keeps.sends c.all.w kept here)) c.in_ok-put_wire.ensures)
+    let at = goal.at.all-preserved g c in
+    more_numbered _ (length (wires_of c.args.run.now.machine.now.set.topo)) _ c.all.invariant (omega (arith, c.all-test.true, many g at.After-wires-wires))
+    (same_text _ _ _ _ _ (line g at.After-deref) c.in_ok-put_wire.ensures)
 
 pub returns : goal.returns
 returns g c =
-    let set = c.args.run.now.machine.now.set in
-    let text : ℕ → List ℕ = sent_line set c.args.run.now.cycles in
-    let many : c.wires-wires.result ≡ length (wires_of set.topo) = c.wires-wires.ensures.value ∙ ap (λ (s : ProgramSet). length (wires_of s.topo)) (c.set.view_is ∙ c.set-set.ensures.value) in
-    let le : length (wires_of set.topo) ≤ c.all.w = omega (arith, c.all-test.false, many) in
-    all_written _ _ _ _ _ c.all.invariant (no_number text (length (wires_of set.topo)) c.all.w le)
+    all_numbered _ (length (wires_of c.args.run.now.machine.now.set.topo)) _ c.all.invariant (omega (arith, c.all-test.false, many g (goal.at.returns g c).After-wires-wires))
