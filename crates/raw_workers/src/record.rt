@@ -114,16 +114,6 @@ impl Kept<'_> {
         }
         Ok(self.steps.len() != before)
     }
-
-    // Takes steps until the machine is quiet.
-    fn run(&mut self) -> Result<(), AllocError>
-        requires kept { IsKept self.old.machine.set self.old }
-        ensures kept { OnOk result (IsKept self.old.machine.set self.new) }
-        ensures quiet { OnOk result (IsQuiet self.old.machine.set self.new.machine.state) }
-    {
-        'sweeps: while self.sweep()? {}
-        Ok(())
-    }
 }
 
 // A round, and where it took no step a turn on this thread, which are kept. Says whether a step was taken; where none
@@ -168,19 +158,6 @@ fn advance<'s, R: Threads + Clock + Sync, G: Gate>(
     let steps = serial_turn(&mut machine);
     kept.keep_turn(&steps)?;
     Ok((machine, !steps.is_empty()))
-}
-
-// Runs a set until its machine is quiet, on this thread.
-fn kept_alone<'s>(alloc: Global, set: &'s Set) -> Result<Kept<'s>, AllocError>
-    ensures kept { IfOk result (IsKept set.now) }
-    ensures quiet { IfOk result (λ kept. IsQuiet set.now kept.machine.state) }
-{
-    let mut kept = Kept {
-        machine: Machine::open(alloc, set)?,
-        steps: Vec::new(alloc),
-    };
-    kept.run()?;
-    Ok(kept)
 }
 
 // Runs a set until its machine is quiet, by these workers.
@@ -242,8 +219,14 @@ pub fn work_kept<'s, R: Threads + Clock + Sync, G: Gate>(
 {
     match parallelism {
         Parallelism::Exactly(workers) if workers.count() > 1 => {
-            kept_together(rt, alloc, set, workers, gate)
+            return kept_together(rt, alloc, set, workers, gate);
         }
-        _ => kept_alone(alloc, set),
+        _ => {}
     }
+    let mut kept = Kept {
+        machine: Machine::open(alloc, set)?,
+        steps: Vec::new(alloc),
+    };
+    'sweeps: while kept.sweep()? {}
+    Ok(kept)
 }

@@ -57,20 +57,9 @@ fn advance_together<'s, R: Threads + Clock + Sync, G: Gate>(
     (machine, !steps.is_empty(), tally)
 }
 
-// So many steps on this thread. Says whether the machine may go on; where it may not, it is quiet.
-#[tactic(auto, using(raw_serial::proofs::Taking::run_some))]
-fn advance_alone<'s>(machine: Machine<'s>, most: u64) -> (Machine<'s>, bool, u64)
-    requires { 0 < most }
-    ensures advanced { HasAdvanced machine.entry result.0 result.1 }
-    ensures quiet { result.1 ≡ false → IsQuiet result.0.set result.0.state }
-{
-    let mut machine = machine;
-    let ran = machine.run_for(most);
-    (machine, !ran.rests, ran.steps)
-}
-
 // Runs a machine on for a while, in the next way of the pace. Says whether a step was taken; where none was, the machine
 // is quiet.
+#[tactic(auto, using(raw_serial::proofs::Taking::run_some))]
 fn advance<'s, R: Threads + Clock + Sync, G: Gate>(
     rt: &R,
     alloc: Global,
@@ -86,9 +75,10 @@ fn advance<'s, R: Threads + Clock + Sync, G: Gate>(
     let from = time(rt);
     match pace.next(from) {
         NextRun::Alone { most } => {
-            let (machine, goes_on, steps) = advance_alone(machine, most);
-            pace.took(steps, false, from, time(rt));
-            (machine, goes_on)
+            let mut machine = machine;
+            let ran = machine.run_for(most);
+            pace.took(ran.steps, false, from, time(rt));
+            (machine, !ran.rests)
         }
         NextRun::Together {
             workers,

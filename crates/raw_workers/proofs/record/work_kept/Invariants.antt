@@ -1,9 +1,9 @@
 use Rattle.raw_model.specs.Bounds.{all_left}
 use Rattle.raw_workers.specs.Kept.{IsKept}
-use Rattle.raw_workers.proofs.record.Kept.run.Given as goal
+use Rattle.raw_workers.proofs.record.work_kept.Given as goal
 
 abbrev pub invariant-sweeps : goal.invariant-sweeps
-invariant-sweeps l = IsKept l.fn.self.machine.set l.self
+invariant-sweeps g l = IsKept l.fn.set l.kept
 
 abbrev pub decreases-sweeps : goal.decreases-sweeps
-decreases-sweeps l = all_left l.self.machine.set l.self.machine.state
+decreases-sweeps g l = all_left l.kept.machine.set l.kept.machine.state
