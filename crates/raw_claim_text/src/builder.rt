@@ -7,7 +7,7 @@ ghost use Rattle.raw_set_text.specs.declared.kind.SetKind.{SetKind as Kind};
 ghost use Rattle.raw_flow_text.specs.Statement.{Statement};
 ghost use Rattle.raw_flow_text.specs.Forms.{line_statement};
 ghost use Rattle.raw_flow_text.specs.Faults as flow_line;
-ghost use Rattle.raw_flow_text.specs.Building.{Answers, node_count};
+ghost use Rattle.raw_flow_text.specs.Building.{Answers};
 ghost use Rattle.raw_flow_text.specs.Building.{BuilderStands as FlowStands};
 ghost use Rattle.raw_claim_text.specs.Forms.{is_plain_out, plain_line};
 ghost use Rattle.raw_claim_text.specs.Placing.{said_places, said_in, place_said, place_in, past_fault, line_fault};
@@ -50,12 +50,10 @@ fn add_to_flow<'a>(
     number: u32,
     line: &Tokens<'a>,
 ) -> Result<(), SetRefusal>
-    requires few { node_count flow.old < MAX_TEXT }
     ensures fault { (said : List Statement) → FlowStands flow.old said →
         Answers result number (flow_line.line_fault (Some (size_of topo.now)) said (plain_line (tokens_of line.now))) }
     ensures stands { (said : List Statement) → FlowStands flow.old said →
         OnOk result (FlowStands flow.new (said ++ option_to_list (line_statement (plain_line (tokens_of line.now))))) }
-    ensures few { OnOk result (node_count flow.new ≤ node_count flow.old + 1) }
 {
     if names_place(line) {
         flow.add_out_line(number, second(line))
@@ -141,7 +139,6 @@ impl<'a> ClaimBuilder<'a> {
     /// A claim of which no line is added yet.
     pub(crate) fn new(alloc: Global) -> ClaimBuilder<'a>
         ensures stands { (topo : Topology) → ClaimStands topo result [] }
-        ensures empty { node_count result.flow ≡ 0 }
         ensures none { length result.places.items ≡ 0 }
     {
         ClaimBuilder {
@@ -159,14 +156,12 @@ impl<'a> ClaimBuilder<'a> {
         number: u32,
         line: &Tokens<'a>,
     ) -> Result<(), SetRefusal>
-        requires few { node_count self.old.flow < MAX_TEXT }
-        requires room { length self.old.places.items < MAX_TEXT }
+        requires { length self.old.places.items < MAX_TEXT }
         ensures fault { (lines : List (List (List ℕ))) → ClaimStands topo.now self.old lines → Answers result number
             (line_fault (flow_line.line_fault (Some (size_of topo.now)) (said_in lines) (plain_line (tokens_of line.now)))
             (place_said topo.now (said_places topo.now lines) (tokens_of line.now))) }
         ensures stands { (lines : List (List (List ℕ))) → ClaimStands topo.now self.old lines →
             OnOk result (ClaimStands topo.now self.new (lines ++ tokens_of line.now ∷ [])) }
-        ensures few { OnOk result (node_count self.new.flow ≤ node_count self.old.flow + 1) }
         ensures room { OnOk result (length self.new.places.items ≤ length self.old.places.items + 1) }
     {
         let said = place_said(topo, self.plain, &self.places, line);

@@ -12,10 +12,6 @@ use Rattle.raw_flow_text.specs.Statement.{Statement}
 use Rattle.raw_flow_text.specs.Flows.{size_in, names_in, number_in, nodes_in, outs_in, words_in}
 use Rattle.raw_flow_text.specs.Faults.{statement_fault}
 
--- how many nodes a flow has that is being built
-abbrev pub node_count : Builder → ℕ
-node_count builder = length builder.nodes.items
-
 -- a flow that is being built, for these statements
 pub record BuilderStands (builder : Builder) (said : List Statement) : Type 0 where
   pub size : builder.size ≡ size_in said

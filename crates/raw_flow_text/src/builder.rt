@@ -1,5 +1,5 @@
 //! A flow that is being built, line by line.
-ghost use Rattle.std.specs.Prelude.{◌≡◌, ◌<◌, ◌≤◌, ◌+◌, ◌^◌, ℕ, List, [], ◌∷◌, ◌++◌, length, Some, None, OnOk, IfOk, IfErr, true, ◌&&◌, if◌then◌else◌};
+ghost use Rattle.std.specs.Prelude.{◌≡◌, ℕ, List, [], ◌∷◌, ◌++◌, Some, None, OnOk, IfOk, IfErr, true, ◌&&◌, if◌then◌else◌};
 ghost use Rattle.std.specs.Option.{is_some, option_to_list};
 ghost use Rattle.raw_asm.specs.Tokens.{tokens_of};
 ghost use Rattle.raw_asm.specs.NameTable.{value_in};
@@ -9,7 +9,7 @@ ghost use Rattle.raw_flow_text.specs.Statement.Statement.{Grid, Input, Const, Ap
 ghost use Rattle.raw_flow_text.specs.Flows.{fed_by, IsFed};
 ghost use Rattle.raw_flow_text.specs.Faults.{is_unwanted, line_fault, end_fault};
 ghost use Rattle.raw_flow_text.specs.Forms.{out_line, line_statement};
-ghost use Rattle.raw_flow_text.specs.Building.{node_count, BuilderStands, Answers, Adds, Defines};
+ghost use Rattle.raw_flow_text.specs.Building.{BuilderStands, Answers, Adds, Defines};
 
 use crate::forms::read_line;
 use crate::input::FlowInput;
@@ -20,7 +20,6 @@ use raw_asm::{AsmKind, Tokens};
 use raw_flow::{Flow, FlowOp, MAX_NODES, Node};
 use raw_grid::MAX_SIZE;
 use raw_set_text::{SetKind, SetRefusal};
-use raw_text::MAX_TEXT;
 use std::alloc::{AllocError, Global};
 use std::collections::BTreeMap;
 
@@ -80,8 +79,7 @@ fn is_unwanted(wanted: Option<(u8, u8)>, said: Line<'_>) -> bool
 impl<'a> Builder<'a> {
     /// A flow of which no line is added yet.
     pub fn new(alloc: Global) -> Builder<'a>
-        ensures stands { BuilderStands result [] }
-        ensures empty { node_count result ≡ 0 }
+        ensures { BuilderStands result [] }
     {
         Builder {
             size: None,
@@ -111,21 +109,23 @@ impl<'a> Builder<'a> {
         Ok(())
     }
 
-    // Adds a node with a name that is new.
+    // Adds a node with a name that is new. More nodes than can be numbered are want of memory.
     fn define(&mut self, name: &'a [u8], node: Node) -> Result<(), AllocError>
-        requires few { length self.old.nodes.items < MAX_TEXT }
-        requires new { value_in self.old.numbers name.now ≡ None }
+        requires { value_in self.old.numbers name.now ≡ None }
         ensures { OnOk result (Defines self.old self.new name.now node) }
     {
-        self.numbers.insert(name, self.nodes.len() as u32)?;
+        let number = self.nodes.len();
+        if number > u32::MAX as usize {
+            return Err(AllocError);
+        }
+        self.numbers.insert(name, number as u32)?;
         self.nodes.push(node)?;
         Ok(())
     }
 
     // `grid C R`
     fn add_grid(&mut self, line: u32, columns: u32, rows: u32) -> Result<(), SetRefusal>
-        ensures adds { Adds self.old self.new line result (Grid columns rows) }
-        ensures few { OnOk result (length self.new.nodes.items ≤ length self.old.nodes.items + 1) }
+        ensures { Adds self.old self.new line result (Grid columns rows) }
     {
         let Some(size) = size_of(columns, rows) else {
             return Err(at(line, SetKind::BadSize));
@@ -139,9 +139,7 @@ impl<'a> Builder<'a> {
 
     // `input NAME W`
     fn add_input(&mut self, line: u32, name: &'a [u8], word: u32) -> Result<(), SetRefusal>
-        requires few { length self.old.nodes.items < MAX_TEXT }
-        ensures adds { Adds self.old self.new line result (Input name.now word) }
-        ensures few { OnOk result (length self.new.nodes.items ≤ length self.old.nodes.items + 1) }
+        ensures { Adds self.old self.new line result (Input name.now word) }
     {
         self.expect_new(line, name)?;
         self.define(name, Node::Input)?;
@@ -151,9 +149,7 @@ impl<'a> Builder<'a> {
 
     // `def NAME const W`
     fn add_const(&mut self, line: u32, name: &'a [u8], word: u32) -> Result<(), SetRefusal>
-        requires few { length self.old.nodes.items < MAX_TEXT }
-        ensures adds { Adds self.old self.new line result (Const name.now word) }
-        ensures few { OnOk result (length self.new.nodes.items ≤ length self.old.nodes.items + 1) }
+        ensures { Adds self.old self.new line result (Const name.now word) }
     {
         self.expect_new(line, name)?;
         self.define(name, Node::Const { word })?;
@@ -169,9 +165,7 @@ impl<'a> Builder<'a> {
         a: &[u8],
         b: &[u8],
     ) -> Result<(), SetRefusal>
-        requires few { length self.old.nodes.items < MAX_TEXT }
-        ensures adds { Adds self.old self.new line result (Apply name.now op a.now b.now) }
-        ensures few { OnOk result (length self.new.nodes.items ≤ length self.old.nodes.items + 1) }
+        ensures { Adds self.old self.new line result (Apply name.now op a.now b.now) }
     {
         self.expect_new(line, name)?;
         let Some(a) = self.number(a) else {
@@ -186,8 +180,7 @@ impl<'a> Builder<'a> {
 
     // `out NAME`
     fn add_out(&mut self, line: u32, name: &[u8]) -> Result<(), SetRefusal>
-        ensures adds { Adds self.old self.new line result (Out name.now) }
-        ensures few { OnOk result (length self.new.nodes.items ≤ length self.old.nodes.items + 1) }
+        ensures { Adds self.old self.new line result (Out name.now) }
     {
         let Some(number) = self.number(name) else {
             return Err(at(line, SetKind::Asm(AsmKind::UnknownName)));
@@ -198,9 +191,7 @@ impl<'a> Builder<'a> {
 
     // Adds what a line says.
     fn add(&mut self, line: u32, said: Line<'a>) -> Result<(), SetRefusal>
-        requires few { length self.old.nodes.items < MAX_TEXT }
-        ensures adds { Adds self.old self.new line result (said_by said.entry) }
-        ensures few { OnOk result (length self.new.nodes.items ≤ length self.old.nodes.items + 1) }
+        ensures { Adds self.old self.new line result (said_by said.entry) }
     {
         match said {
             Line::Grid(columns, rows) => self.add_grid(line, columns, rows),
@@ -220,11 +211,9 @@ impl<'a> Builder<'a> {
         number: u32,
         line: &Tokens<'a>,
     ) -> Result<(), SetRefusal>
-        requires few { node_count self.old < MAX_TEXT }
         ensures fault { (said : List Statement) → BuilderStands self.old said → Answers result number (line_fault wanted said (tokens_of line.now)) }
         ensures stands { (said : List Statement) → BuilderStands self.old said →
             OnOk result (BuilderStands self.new (said ++ option_to_list (line_statement (tokens_of line.now)))) }
-        ensures few { OnOk result (node_count self.new ≤ node_count self.old + 1) }
     {
         if line.len() == 0 {
             return Ok(());
@@ -245,7 +234,6 @@ impl<'a> Builder<'a> {
             Answers result number (line_fault (Some size) said (out_line name.now)) }
         ensures stands { (said : List Statement) → BuilderStands self.old said →
             OnOk result (BuilderStands self.new (said ++ option_to_list (line_statement (out_line name.now)))) }
-        ensures few { OnOk result (node_count self.new ≤ node_count self.old + 1) }
     {
         if self.size.is_none() {
             return Err(at(number, SetKind::Missing));

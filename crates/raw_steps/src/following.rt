@@ -33,22 +33,6 @@ pub(crate) fn take_log(
     left[w] = take_from(m, left[w], woven);
 }
 
-// Takes from the log of a processor as long as its next entry is enabled, and says whether the processor
-// stepped.
-fn reach(m: &mut Machine<'_>, left: &mut [&[ProcId]], p: ProcId, woven: &mut Vec<ProcId>) -> bool
-    requires some_log { 0 < length left.old }
-    requires can { CanBeWoven m.old (entries_of left.old) woven.old }
-    ensures can { CanBeWoven m.new (entries_of left.new) woven.new }
-    ensures on { IsWovenOn m.old m.new (entries_of left.old) (entries_of left.new)
-        (numbers woven.old.items) (numbers woven.new.items) }
-    ensures more { result ≡ true → vec_len woven.old < vec_len woven.new }
-{
-    let before = woven.len();
-    let w = p.0 as usize % left.len();
-    take_log(m, left, w, woven);
-    woven.len() > before && woven[before..].contains(&p)
-}
-
 // Adds the processor that a log's next entry waits for to those that are awaited, if there is one, and room
 // for it.
 fn wait_for_next(m: &Machine<'_>, log: &[ProcId], awaited: &mut Vec<ProcId>) -> bool
@@ -88,13 +72,16 @@ fn advance(
     let Some(p) = awaited.last().copied() else {
         return false;
     };
-    if reach(m, left, p, woven) {
+    let before = woven.len();
+    let w = p.0 as usize % left.len();
+    take_log(m, left, w, woven);
+    if woven.len() > before && woven[before..].contains(&p) {
         awaited.pop();
         return true;
     }
     // The number of processors is asked for so that each is known to have a local state.
     let _procs = m.procs();
-    wait_for_next(m, left[p.0 as usize % left.len()], awaited)
+    wait_for_next(m, left[w], awaited)
 }
 
 // Where log w waits for a processor, lets that one's log go on until the processor has stepped; where that log

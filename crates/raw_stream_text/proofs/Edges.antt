@@ -1,11 +1,10 @@
 -- Edges, each once, and their numbers.
-use Rattle.std.proofs.Common.{◌≡◌, ℕ, ◌+◌, ◌≤◌, arith, Bool, true, false, ◌&&◌, cond, eqb, List, [], ◌∷◌, ◌++◌, length, Option, Some, None, refl, sym, ap, ◌∙◌, subst, append-nil}
+use Rattle.std.proofs.Common.{◌≡◌, ℕ, ◌+◌, Bool, true, false, ◌&&◌, cond, eqb, List, [], ◌∷◌, ◌++◌, length, Option, Some, None, refl, sym, ap, ◌∙◌, subst, append-nil}
 use Rattle.std.specs.Prelude.{All}
 use Rattle.std.specs.HashMap.{HashMap, get}
 use Rattle.std.specs.Option.{option_or, option_to_list, is_some}
 use Rattle.std.specs.List.{position, filter_map}
 use Rattle.std.proofs.lemmas.Bool.{and_parts, eqb-true, eq-eqb}
-use Rattle.std.proofs.lemmas.List.{length_push}
 use Rattle.std.proofs.lemmas.List.Elements.{All-push, All-head, All-tail}
 use Rattle.raw_grid.specs.Names.{net_number, side_number}
 use Rattle.raw_set_text.specs.declared.declaration.Edge.{Edge}
@@ -92,17 +91,6 @@ there before [] ys edge =
     let one = there_one before edge in
     (one.0, kept (with_edge before edge) ys edge one.0 one.1)
 there before (x ∷ xs) ys edge = there (with_edge before x) xs ys edge
-
--- no more edges than are named
-few_with : (edges : List Edge) (edge : Edge) → length (with_edge edges edge) ≤ length edges + 1
-few_with edges edge = by (is_some (edge_number edges edge)) where
-  by : (b : Bool) → length (cond b edges (edges ++ edge ∷ [])) ≤ length edges + 1
-  by true = omega arith
-  by false = omega (arith, length_push edges edge)
-
-pub few_once : (before edges : List Edge) → length (each_once before edges) ≤ length before + length edges
-few_once before [] = omega arith
-few_once before (edge ∷ edges) = let more = few_with before edge in let rest = few_once (with_edge before edge) edges in omega (arith, more, rest)
 
 -- what holds of each edge that is named
 all_with : (P : Edge → Type 0) (edges : List Edge) (edge : Edge) → All P edges → P edge → All P (with_edge edges edge)

@@ -1,10 +1,10 @@
 -- What lines define and name, with one statement more.
-use Rattle.std.proofs.Common.{◌≡◌, ℕ, ◌+◌, ◌<◌, ◌≤◌, get_or, take, Bool, true, false, cond, List, [], ◌∷◌, ◌++◌, length, Option, Some, None, refl, sym, ap, ◌∙◌, subst, arith, append-nil}
+use Rattle.std.proofs.Common.{◌≡◌, ℕ, ◌+◌, ◌<◌, ◌≤◌, get_or, Bool, true, false, cond, List, [], ◌∷◌, ◌++◌, length, Option, Some, None, refl, sym, ap, ◌∙◌, subst, append-nil}
 use Rattle.std.specs.Prelude.{Result, OnOk}
 use Rattle.std.specs.Option.{option_or, option_to_list, is_some}
 use Rattle.std.specs.List.{filter_map}
 use Rattle.std.specs.Str.{bytes_eq}
-use Rattle.std.proofs.lemmas.List.{length_push, length-take-le, take_all}
+use Rattle.std.proofs.lemmas.List.{length_push, take_all}
 use Rattle.std.proofs.lemmas.Result.{on_ok_weaker}
 use Rattle.std.proofs.lemmas.Slice.Eq.{bytes_eq-Decides}
 use Rattle.raw_asm.specs.NameTable.{value_in}
@@ -18,9 +18,9 @@ use Rattle.raw_stream_text.specs.Statement.Statement.{Input, Out}
 use Rattle.raw_stream_text.specs.Forms.{line_statement}
 use Rattle.raw_stream_text.specs.Streams.{name_of, names_in, source_of, sources_in, sink_of, sinks_in}
 use Rattle.raw_stream_text.specs.Meaning.{said_before, said_in}
-use Rattle.raw_stream_text.specs.Building.{Defines, AreFew, IsNamed}
-use Rattle.raw_stream_text.proofs.Edges.{with_some, once_next, few_once}
-use Rattle.raw_stream_text.proofs.Next.{said_next, few_said}
+use Rattle.raw_stream_text.specs.Building.{Defines, IsNamed}
+use Rattle.raw_stream_text.proofs.Edges.{with_some, once_next}
+use Rattle.raw_stream_text.proofs.Next.{said_next}
 
 -- a name that is there keeps its number
 kept : (there : Option ℕ) (value : ℕ) (same : Bool) → (same ≡ true → is_some there ≡ true) → there ≡ option_or there (cond same (Some value) None)
@@ -101,20 +101,3 @@ module _ (named : Named) (lines : List (List (List ℕ))) (k : ℕ) where
 
   pub named_all : length lines ≤ k → IsNamed named (said_before lines k) → IsNamed named (said_in lines)
   named_all le is = subst (λ front. IsNamed named (filter_map line_statement front)) (take_all k lines le) is
-
-  -- no more names and edges than lines
-  pub few_named : (most : ℕ) → k < length lines → length lines ≤ most → IsNamed named (said_before lines k) → AreFew named most
-  few_named most lt le is =
-      let said : List Statement = said_before lines k in
-      let front : length (take k lines) ≡ k = length-take-le k lines (omega (arith, lt)) in
-      let few : length said ≤ length (take k lines) = few_said line_statement (take k lines) in
-      let names : length (names_in said) ≤ length said = few_said name_of said in
-      let inputs : length (filter_map source_of said) ≤ length said = few_said source_of said in
-      let outs : length (filter_map sink_of said) ≤ length said = few_said sink_of said in
-      let sources : length (sources_in said) ≤ 0 + length (filter_map source_of said) = few_once [] (filter_map source_of said) in
-      let sinks : length (sinks_in said) ≤ 0 + length (filter_map sink_of said) = few_once [] (filter_map sink_of said) in
-      record {
-        names = omega (arith, lt, le, front, few, names, is.count);
-        sources = omega (arith, lt, le, front, few, inputs, sources, ap length is.sources);
-        sinks = omega (arith, lt, le, front, few, outs, sinks, ap length is.sinks);
-      }

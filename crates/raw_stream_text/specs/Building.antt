@@ -1,5 +1,5 @@
 -- What is known of all lines of a text, and what a stream that is being built stands for: what the lines so far say.
-use Rattle.std.specs.Prelude.{◌≡◌, ℕ, ◌+◌, ◌<◌, ◌++◌, ◌∷◌, [], List, length, map, nat_lt, Option, Some, None, Result, OnOk, if◌then◌else◌}
+use Rattle.std.specs.Prelude.{◌≡◌, ℕ, ◌+◌, ◌++◌, ◌∷◌, [], List, length, map, nat_lt, Option, Some, None, Result, OnOk, if◌then◌else◌}
 use Rattle.std.specs.Option.{option_or}
 use Rattle.std.specs.List.{filter_map}
 use Rattle.std.specs.Str.{bytes_eq}
@@ -37,12 +37,6 @@ pub record Defines (old new : Named) (name : List ℕ) : Type 0 where
   pub count : new.count ≡ old.count + 1
   pub sources : new.sources ≡ old.sources
   pub sinks : new.sinks ≡ old.sinks
-
--- fewer names, sources and sinks than so many
-pub record AreFew (named : Named) (most : ℕ) : Type 0 where
-  pub names : named.count < most
-  pub sources : length named.sources < most
-  pub sinks : length named.sinks < most
 
 -- what all statements of a text define and name
 pub record IsNamed (named : Named) (all : List Statement) : Type 0 where

@@ -1,5 +1,5 @@
 //! What all lines of a text define and name.
-ghost use Rattle.std.specs.Prelude.{◌≡◌, ◌+◌, ◌<◌, ◌++◌, ◌∷◌, [], List, length, IfOk, OnOk};
+ghost use Rattle.std.specs.Prelude.{◌≡◌, ◌++◌, ◌∷◌, [], List, IfOk, OnOk};
 ghost use Rattle.std.specs.Option.{option_to_list};
 ghost use Rattle.raw_asm.specs.NameTable.{value_in};
 ghost use Rattle.raw_asm.specs.Tokens.{tokens_of, section_lines};
@@ -8,7 +8,7 @@ ghost use Rattle.raw_stream_text.specs.Statement.{Statement, said_by};
 ghost use Rattle.raw_stream_text.specs.Statement.Statement.{Flow, Input};
 ghost use Rattle.raw_stream_text.specs.Forms.{line_statement};
 ghost use Rattle.raw_stream_text.specs.Meaning.{said_in};
-ghost use Rattle.raw_stream_text.specs.Building.{Notes, Defines, IsNamed, AreFew};
+ghost use Rattle.raw_stream_text.specs.Building.{Notes, Defines, IsNamed};
 
 use crate::forms::read_line;
 use crate::line::Line;
@@ -17,7 +17,6 @@ use raw_asm::{Section, Tokens};
 use raw_flow_text as flow;
 use raw_flow_text::Operations;
 use raw_set_text::Edge;
-use raw_text::MAX_TEXT;
 use std::alloc::{AllocError, Global};
 use std::collections::BTreeMap;
 
@@ -53,19 +52,20 @@ impl<'a> Named<'a> {
         Ok(())
     }
 
-    // Adds a line that defines a name.
+    // Adds a line that defines a name. More of them than can be numbered are want of memory.
     fn define(&mut self, name: &'a [u8]) -> Result<(), AllocError>
-        requires { self.old.count < MAX_TEXT }
         ensures { OnOk result (Defines self.old self.new name.now) }
     {
         self.note(name)?;
+        if self.count == u32::MAX {
+            return Err(AllocError);
+        }
         self.count += 1;
         Ok(())
     }
 
     // Adds what the line of a flow says.
     fn add_flow(&mut self, said: flow::Line<'a>) -> Result<(), AllocError>
-        requires { AreFew self.old MAX_TEXT }
         ensures { (all : List Statement) → IsNamed self.old all → OnOk result (IsNamed self.new (all ++ Flow (said_by_flow said.entry) ∷ [])) }
     {
         match said {
@@ -79,7 +79,6 @@ impl<'a> Named<'a> {
 
     // Adds a name for the next word of a source.
     fn add_input(&mut self, name: &'a [u8], edge: Edge) -> Result<(), AllocError>
-        requires { AreFew self.old MAX_TEXT }
         ensures { (all : List Statement) → IsNamed self.old all → OnOk result (IsNamed self.new (all ++ Input name.now edge ∷ [])) }
     {
         self.sources.add(edge)?;
@@ -88,7 +87,6 @@ impl<'a> Named<'a> {
 
     // Adds what a line says.
     fn add(&mut self, said: &Line<'a>) -> Result<(), AllocError>
-        requires { AreFew self.old MAX_TEXT }
         ensures { (all : List Statement) → IsNamed self.old all → OnOk result (IsNamed self.new (all ++ said_by said.now ∷ [])) }
     {
         match said {
@@ -108,7 +106,6 @@ impl<'a> Named<'a> {
         operations: &Operations,
         line: &Tokens<'a>,
     ) -> Result<(), AllocError>
-        requires { AreFew self.old MAX_TEXT }
         ensures { (all : List Statement) → IsNamed self.old all → OnOk result (IsNamed self.new (all ++ option_to_list (line_statement (tokens_of line.now)))) }
     {
         if line.len() == 0 {

@@ -1,5 +1,5 @@
 //! Edges at which there are ports, each once, by the order in which they are first named.
-ghost use Rattle.std.specs.Prelude.{◌≡◌, ◌<◌, ◌≤◌, ◌+◌, ◌^◌, [], ◌∷◌, length, IfOk, OnOk, All};
+ghost use Rattle.std.specs.Prelude.{◌≡◌, [], ◌∷◌, length, IfOk, OnOk, All};
 ghost use Rattle.raw_stream_text.specs.Edges.{key_of, edge_number, with_edge, places_of};
 ghost use Rattle.raw_stream_text.specs.Seated.{IsNear};
 
@@ -83,21 +83,23 @@ impl Seats {
         self.numbers.get(&key_of(edge)).copied()
     }
 
-    /// Adds an edge, where it is not there. For want of memory nothing is added.
+    /// Adds an edge, where it is not there. For want of memory nothing is added. More edges than can be numbered are that.
     pub(crate) fn add(&mut self, edge: Edge) -> Result<(), AllocError>
-        requires { length self.old < 2 ^ 32 }
         ensures added { OnOk result (self.new ≡ with_edge self.old edge) }
     {
         if self.find(edge).is_some() {
             return Ok(());
         }
         let key = key_of(edge);
-        let number = self.edges.len() as u32;
+        let number = self.edges.len();
+        if number > u32::MAX as usize {
+            return Err(AllocError);
+        }
         self.edges.push(edge)?;
-        match self.numbers.insert(key, number) {
+        match self.numbers.insert(key, number as u32) {
             Ok(_) => Ok(()),
             Err(_) => {
-                self.edges.truncate(number as usize);
+                self.edges.truncate(number);
                 Err(AllocError)
             }
         }

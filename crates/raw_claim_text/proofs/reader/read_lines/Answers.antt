@@ -19,7 +19,6 @@ pub loop-place-init : goal.loop-place-init
 loop-place-init c = record {
   stands = c.new-builder.ensures.stands c.args.topo.now;
   faultless = λ k below. absurd (omega (arith, below));
-  few = omega (arith, c.new-builder.ensures.empty);
   room = omega (arith, c.new-builder.ensures.none);
 }
 
@@ -52,7 +51,6 @@ loop-place-preserved c =
       faultless = line_passes topo c.args.from lines k lt c.loop-place.invariant.faultless
           (ap (λ line. line_fault (flow_line.line_fault (Some (size_of topo)) (said_in (take k lines)) (plain_line line)) (place_said topo (said_places topo (take k lines)) line)) (sym c.line.ensures)
           ∙ kept.fault (take k lines) stands);
-      few = let few = kept.few in omega (arith, few, c.loop-place.invariant.few);
       room = let room = kept.room in omega (arith, room, c.loop-place.invariant.room);
     }
 

@@ -36,7 +36,6 @@ loop-place-preserved c =
     record {
       stands = stands_next c.args.wanted c.args.from lines c.add_line.new.self k lt (subst (λ line. BuilderStands c.add_line.new.self (said_before lines k ++ option_to_list (line_statement line))) c.line.ensures (kept.stands (said_before lines k) stands));
       faultless = line_passes c.args.wanted c.args.from lines k lt c.loop-place.invariant.faultless (ap (line_fault c.args.wanted (said_before lines k)) (sym c.line.ensures) ∙ kept.fault (said_before lines k) stands);
-      few = let few = kept.few in omega (arith, few, c.loop-place.invariant.few);
     }
 
 pub finish-requires : goal.finish-requires

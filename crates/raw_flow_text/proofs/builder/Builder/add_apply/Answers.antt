@@ -8,14 +8,14 @@ use Rattle.raw_flow_text.specs.Faults.{has_name}
 use Rattle.raw_flow_text.proofs.Standing.{has_is, has_not, has_found, number_is, refused, apply_fault, defined}
 use Rattle.raw_flow_text.proofs.builder.Builder.add_apply.Goals as goal
 
-pub returns-in_err-expect_new-clause-adds : goal.returns-in_err-expect_new-clause-adds
-returns-in_err-expect_new-clause-adds c =
+pub returns-in_err-expect_new : goal.returns-in_err-expect_new
+returns-in_err-expect_new c =
     let told = (c.in_err-expect_new.ensures {u = tt}).defined in
     refused c.args.self.now _ c.args.line c.from_residual.result c.in_err-expect_new.field-0.0 Repeated (Apply c.args.name.now c.args.op c.args.a.now c.args.b.now) c.from_residual.ensures.1 told.0
     (λ said stands. apply_fault said c.args.name.now c.args.op c.args.a.now c.args.b.now true (has_found c.args.self.now said c.args.name.now stands told.1))
 
-pub returns-in_default-clause-adds : goal.returns-in_default-clause-adds
-returns-in_default-clause-adds c = rw c.at.ensures (record {
+pub returns-in_default : goal.returns-in_default
+returns-in_default c = rw c.at.ensures (record {
   fault = λ said stands. (
     refl,
     let fresh = has_not c.args.self.now said c.args.name.now stands c.in_ok-expect_new.ensures.new in
@@ -25,8 +25,8 @@ returns-in_default-clause-adds c = rw c.at.ensures (record {
   stands = λ said stands. tt;
 })
 
-pub returns-in_default-number-clause-adds : goal.returns-in_default-number-clause-adds
-returns-in_default-number-clause-adds c = rw c.at-in_default-number.ensures (record {
+pub returns-in_default-number : goal.returns-in_default-number
+returns-in_default-number c = rw c.at-in_default-number.ensures (record {
   fault = λ said stands. (
     refl,
     let fresh = has_not c.args.self.now said c.args.name.now stands c.in_ok-expect_new.ensures.new in
@@ -37,8 +37,8 @@ returns-in_default-number-clause-adds c = rw c.at-in_default-number.ensures (rec
   stands = λ said stands. tt;
 })
 
-pub returns-clause-adds : goal.returns-clause-adds
-returns-clause-adds c = record {
+pub returns : goal.returns
+returns c = record {
   fault = λ said stands.
       let fresh = has_not c.args.self.now said c.args.name.now stands c.in_ok-expect_new.ensures.new in
       let first : has_name said c.args.a.now ≡ true = has_is c.args.self.now said c.args.a.now c.number.result true stands c.number.ensures (ap is_some c.in-Some.is) in

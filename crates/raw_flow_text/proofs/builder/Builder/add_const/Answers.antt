@@ -5,14 +5,14 @@ use Rattle.raw_flow_text.specs.Statement.Statement.{Const}
 use Rattle.raw_flow_text.proofs.Standing.{has_not, has_found, refused, const_fault, defined}
 use Rattle.raw_flow_text.proofs.builder.Builder.add_const.Goals as goal
 
-pub returns-in_err-expect_new-clause-adds : goal.returns-in_err-expect_new-clause-adds
-returns-in_err-expect_new-clause-adds c =
+pub returns-in_err-expect_new : goal.returns-in_err-expect_new
+returns-in_err-expect_new c =
     let told = (c.in_err-expect_new.ensures {u = tt}).defined in
     refused c.args.self.now _ c.args.line c.from_residual.result c.in_err-expect_new.field-0.0 Repeated (Const c.args.name.now c.args.word) c.from_residual.ensures.1 told.0
     (λ said stands. const_fault said c.args.name.now c.args.word true (has_found c.args.self.now said c.args.name.now stands told.1))
 
-pub returns-clause-adds : goal.returns-clause-adds
-returns-clause-adds c = record {
+pub returns : goal.returns
+returns c = record {
   fault = λ said stands. const_fault said c.args.name.now c.args.word false (has_not c.args.self.now said c.args.name.now stands c.in_ok-expect_new.ensures.new);
   stands = λ said stands.
       defined c.args.self.now c.define.new.self c.define.new.self said (Const c.args.name.now c.args.word) c.args.name.now (node.Const c.args.word) stands refl refl refl refl

@@ -3,8 +3,8 @@ use Rattle.std.specs.Option.{is_some}
 use Rattle.raw_flow_text.proofs.Standing.{has_is, out_fault, out_added}
 use Rattle.raw_flow_text.proofs.builder.Builder.add_out.Goals as goal
 
-pub returns-in_default-clause-adds : goal.returns-in_default-clause-adds
-returns-in_default-clause-adds c = rw c.at.ensures (record {
+pub returns-in_default : goal.returns-in_default
+returns-in_default c = rw c.at.ensures (record {
   fault = λ said stands. (
     refl,
     out_fault said c.args.name.now _ (has_is c.args.self.now said c.args.name.now c.number.result _ stands c.number.ensures (ap is_some c.in_default.is)),
@@ -12,8 +12,8 @@ returns-in_default-clause-adds c = rw c.at.ensures (record {
   stands = λ said stands. tt;
 })
 
-pub returns-clause-adds : goal.returns-clause-adds
-returns-clause-adds c = record {
+pub returns : goal.returns
+returns c = record {
   fault = λ said stands.
       out_fault said c.args.name.now _ (has_is c.args.self.now said c.args.name.now c.number.result _ stands c.number.ensures (ap is_some c.in-Some.is));
   stands = λ said stands.

@@ -25,8 +25,8 @@ pub returns-clause-fault : goal.returns-clause-fault
 returns-clause-fault c = λ size said stands.
     subst (Answers c.add_out.result c.args.number)
     (sym (named size said c.args.name.now (ap is_none (sym stands.size) ∙ ap not c.is_none.ensures ∙ twice c.is_none.result ∙ c.if-is_none.false) (sym c.is_name.ensures ∙ c.if-not-is_name.false)))
-    (c.add_out.ensures.adds.fault said stands)
+    (c.add_out.ensures.fault said stands)
 
 pub returns-clause-stands : goal.returns-clause-stands
 returns-clause-stands c = λ said stands.
-    rw (says c.args.name.now, sym c.is_name.ensures, c.if-not-is_name.false) (c.add_out.ensures.adds.stands said stands)
+    rw (says c.args.name.now, sym c.is_name.ensures, c.if-not-is_name.false) (c.add_out.ensures.stands said stands)

@@ -1,15 +1,11 @@
 use Rattle.std.proofs.Common.{◌++◌, subst, arith}
 use Rattle.std.specs.Option.{option_to_list}
-use Rattle.raw_text.specs.declared.limits.TheConstants.{MAX_TEXT}
 use Rattle.raw_asm.specs.Tokens.{section_lines}
 use Rattle.raw_stream_text.specs.Forms.{line_statement}
 use Rattle.raw_stream_text.specs.Meaning.{said_before}
 use Rattle.raw_stream_text.specs.Building.{IsNamed}
-use Rattle.raw_stream_text.proofs.Naming.{named_next, named_all, few_named}
+use Rattle.raw_stream_text.proofs.Naming.{named_next, named_all}
 use Rattle.raw_stream_text.proofs.named.Named.new.Goals as goal
-
-pub add_line-requires : goal.add_line-requires
-add_line-requires c = few_named c.loop-place.named (section_lines c.args.lines.now) c.loop-place.place MAX_TEXT (omega arith) (omega arith) c.loop-place.invariant
 
 pub loop-place-preserved : goal.loop-place-preserved
 loop-place-preserved c =
