@@ -34,22 +34,6 @@ fn set_for(
     }
 }
 
-// A set for a stream, where it is proved that it meets the stream.
-fn if_proved(alloc: Global, input: &StreamInput, set: Set) -> Result<Option<Set>, AllocError>
-    requires input { IsFed None input.now }
-    requires set { IsSetForStream input.now.stream input.now.words set }
-    ensures { IfOk result (λ found. IfSome found (MeetsStream input.now.stream input.now.words)) }
-{
-    let mut set = set;
-    // The set is read so that its rules are known.
-    let _limit = set.limit;
-    if is_proved(alloc, &mut set, &input.stream)? {
-        Ok(Some(set))
-    } else {
-        Ok(None)
-    }
-}
-
 // What the search finds for a stream, where it is proved that it meets the stream.
 fn found_set(alloc: Global, input: &StreamInput) -> Result<Option<Set>, AllocError>
     requires { IsFed None input.now }
@@ -61,7 +45,15 @@ fn found_set(alloc: Global, input: &StreamInput) -> Result<Option<Set>, AllocErr
         Err(failure) => return Err(failure),
     };
     match set_for(alloc, input, &pipeline.programs) {
-        Ok(Some(set)) => if_proved(alloc, input, set),
+        Ok(Some(mut set)) => {
+            // The set is read so that its rules are known.
+            let _limit = set.limit;
+            if is_proved(alloc, &mut set, &input.stream)? {
+                Ok(Some(set))
+            } else {
+                Ok(None)
+            }
+        }
         Ok(None) => Ok(None),
         Err(failure) => Err(failure),
     }

@@ -45,7 +45,7 @@ fn is_proved_by_rows(
     }
 }
 
-// Whether a run with terms over all rows proves it.
+// Whether a run with terms over all its rows proves it.
 fn is_twin_proved(
     alloc: Global,
     set: &Set,
@@ -62,25 +62,6 @@ fn is_twin_proved(
         Verdict::Proved(_) => Ok(true),
         _ => Ok(false),
     }
-}
-
-// Whether it is proved by rows, or else by a run with terms over all of them.
-fn is_either_proved(
-    alloc: Global,
-    set: &mut Set,
-    stream: &StreamFlow,
-    twin: &StreamFlow,
-    sinks: &[u32],
-) -> Result<bool, AllocError>
-    requires stands { TwinStands set.old stream.now twin.now }
-    requires sinks { sinks.now ≡ range_with_len (length stream.now.sources) (length stream.now.sinks) }
-    ensures meets { IfOk result (λ is. is ≡ true → Meets set.old (unrolled stream.now)) }
-    ensures stays { IfOk result (λ is. set.new ≡ set.old) }
-{
-    if is_proved_by_rows(alloc, set, stream, twin)? {
-        return Ok(true);
-    }
-    is_twin_proved(alloc, set, stream, twin, sinks)
 }
 
 /// Whether a set for a stream is proved to meet the flow that the stream is when it is unrolled. It is left as it was, but
@@ -107,7 +88,12 @@ pub(crate) fn is_proved(
     };
     let order = sinks_of(alloc, sources, sinks)?;
     match numbered(alloc, stream, sources) {
-        Ok(Some(twin)) => is_either_proved(alloc, set, stream, &twin, &order),
+        Ok(Some(twin)) => {
+            if is_proved_by_rows(alloc, set, stream, &twin)? {
+                return Ok(true);
+            }
+            is_twin_proved(alloc, set, stream, &twin, &order)
+        }
         Ok(None) => Ok(false),
         Err(failure) => Err(failure),
     }
