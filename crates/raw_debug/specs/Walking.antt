@@ -109,6 +109,11 @@ pub record HasLed (old new : Instant) (to : Option ℕ) (done : Bool) : Type 0 w
   pub set : new.set ≡ old.set
   pub there : to ≡ led done new.moment
 
+-- one became the other by a look, which found what is looked for
+pub record HasLooked (old new : Instant) (wanted found : Option ℕ) : Type 0 where
+  pub set : new.set ≡ old.set
+  pub there : wanted ≡ found
+
 -- none of the processors from one number up to another is enabled
 abbrev pub NoneEnabled : ProgramSet → MachineState → ℕ → ℕ → Type 0
 NoneEnabled set s low high = (p : ℕ) → low ≤ p → p < high → enabled set s p ≡ false
@@ -158,6 +163,8 @@ pub record HasTakenNext (old new : Walk) (stepped : Option ProcId) : Type 0 wher
   pub set : new.machine.set ≡ old.machine.set
   pub gone : IfSome stepped (λ p. (done : List ℕ) → AtDone old done → HasGone old new p.0 done)
   pub rests : stepped ≡ None → (done : List ℕ) → AtDone old done → AtDone new done × IsQuiet new.machine.set new.machine.state
+  pub counted : IfSome stepped (λ _. new.moment ≡ old.moment + 1)
+  pub stays : stepped ≡ None → new.moment ≡ old.moment
 
 -- it stays where it stands
 pub record HasStayed (old new : Walk) : Type 0 where

@@ -6,7 +6,7 @@ ghost use Rattle.raw_grid.specs.Topology.{proc_count};
 ghost use Rattle.raw_grid.specs.Wires.{wires_of};
 ghost use Rattle.raw_model.specs.Program.{ProgramSet};
 ghost use Rattle.raw_model.specs.Serial.{serial};
-ghost use Rattle.raw_debug.specs.Walking.{state_after, count_at, moment_of, sent_by, AreOn, HasLed};
+ghost use Rattle.raw_debug.specs.Walking.{state_after, count_at, moment_of, sent_by, AreOn, HasLed, HasLooked};
 ghost use Rattle.raw_debug.specs.Sending.{IsSent};
 ghost use Rattle.raw_debug.specs.Stops.{stop_after, last_up_to, stopped_after};
 ghost use Rattle.raw_debug.specs.Script.{leads_to};
@@ -352,10 +352,9 @@ impl Trail<'_> {
     // Looks for the latest step that does what is aimed at, from the copy at a place up to a moment.
     fn look_from(&mut self, place: usize, moment: u64, proc: ProcId, aim: Aim) -> Look
         requires { MayLookBack self.old.set proc.0 aim moment }
-        ensures set { self.new.set ≡ self.old.set }
         ensures low { result.low ≤ moment }
-        ensures latest { last_up_to self.old.set moment proc.0 aim
-            ≡ option_or result.found (last_up_to self.old.set result.low proc.0 aim) }
+        ensures looked { HasLooked self.old self.new (last_up_to self.old.set moment proc.0 aim)
+            (option_or result.found (last_up_to self.old.set result.low proc.0 aim)) }
     {
         let nothing = Look {
             found: None,
@@ -377,8 +376,7 @@ impl Trail<'_> {
     // way, half way from there, and so on.
     fn look_anew(&mut self, moment: u64, proc: ProcId, aim: Aim) -> Option<u64>
         requires { MayLookBack self.old.set proc.0 aim moment }
-        ensures set { self.new.set ≡ self.old.set }
-        ensures latest { last_up_to self.old.set moment proc.0 aim ≡ result }
+        ensures { HasLooked self.old self.new (last_up_to self.old.set moment proc.0 aim) result }
     {
         self.kept = 0;
         self.walk.restart();
@@ -412,8 +410,7 @@ impl Trail<'_> {
     // stood, to go back there where there is no such step.
     fn latest(&mut self, proc: ProcId, aim: Aim) -> Option<u64>
         requires { CanAim self.old.set proc.0 aim }
-        ensures set { self.new.set ≡ self.old.set }
-        ensures latest { last_up_to self.old.set self.old.moment proc.0 aim ≡ result }
+        ensures { HasLooked self.old self.new (last_up_to self.old.set self.old.moment proc.0 aim) result }
     {
         let mut high = self.moment();
         self.keep_here();

@@ -140,36 +140,18 @@ impl Walk<'_> {
         None
     }
 
-    // Gives the processors their turns until one takes a step, in this sweep or the next one, and says which one did.
+    // Takes the next step of the serial order where only the processor whose turn was last may be enabled, and says whose it
+    // was, if there was one.
     #[inline(always)]
-    fn sweep_twice(&mut self) -> Option<ProcId>
-        requires { IsUnderWay self.old }
-        ensures moment { self.new.moment ≡ self.old.moment }
-        ensures taken { HasTakenNext self.old self.new result }
-    {
-        law_wired();
-        // The set is asked for so that it is known that the state fits it.
-        let _set = self.machine.set();
-        let last = self.next;
-        self.alone = false;
-        if let Some(stepped) = self.sweep_on() {
-            return Some(stepped);
-        }
-        let within = self.is_within_before(last);
-        let stepped = self.sweep_on()?;
-        self.alone = within && stepped.0 + 1 == last;
-        Some(stepped)
-    }
-
-    // The same where only the processor whose turn was last may be enabled: it gets its turn.
-    #[inline(always)]
-    fn step_alone(&mut self) -> Option<ProcId>
+    fn advance_alone(&mut self) -> Option<ProcId>
         requires under_way { IsUnderWay self.old }
         requires alone { self.old.alone ≡ true }
-        ensures moment { self.new.moment ≡ self.old.moment }
-        ensures taken { HasTakenNext self.old self.new result }
+        ensures { HasTakenNext self.old self.new result }
     {
         law_wired();
+        law_serial();
+        law_bound();
+        // The set is asked for so that it is known to keep its rules, and that the state fits it.
         let _set = self.machine.set();
         let p = ProcId(self.next - 1);
         let within = self.is_within(p);
@@ -177,36 +159,31 @@ impl Walk<'_> {
             return None;
         }
         self.alone = within;
+        self.moment += 1;
         Some(p)
     }
 
-    // The same, whether it is known or not.
-    #[inline(always)]
-    fn step_next(&mut self) -> Option<ProcId>
-        requires { IsUnderWay self.old }
-        ensures moment { self.new.moment ≡ self.old.moment }
-        ensures taken { HasTakenNext self.old self.new result }
-    {
-        if self.alone {
-            self.step_alone()
-        } else {
-            self.sweep_twice()
-        }
-    }
-
-    // Takes the next step of the serial order, and says whose it was, if there was one.
+    // Takes the next step of the serial order, in this sweep or the next one, and says whose it was, if there was one.
     #[inline(always)]
     fn advance(&mut self) -> Option<ProcId>
         requires { IsUnderWay self.old }
-        ensures taken { HasTakenNext self.old self.new result }
-        ensures moment { IfSome result (λ _. self.new.moment ≡ self.old.moment + 1) }
-        ensures stays { result ≡ None → self.new.moment ≡ self.old.moment }
+        ensures { HasTakenNext self.old self.new result }
     {
+        if self.alone {
+            return self.advance_alone();
+        }
+        law_wired();
         law_serial();
         law_bound();
-        // The set is asked for so that it is known to keep its rules.
         let _set = self.machine.set();
-        let stepped = self.step_next()?;
+        let last = self.next;
+        if let Some(stepped) = self.sweep_on() {
+            self.moment += 1;
+            return Some(stepped);
+        }
+        let within = self.is_within_before(last);
+        let stepped = self.sweep_on()?;
+        self.alone = within && stepped.0 + 1 == last;
         self.moment += 1;
         Some(stepped)
     }

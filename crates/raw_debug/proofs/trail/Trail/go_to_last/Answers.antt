@@ -7,6 +7,6 @@ pub return_to-requires : goal.return_to-requires
 return_to-requires c =
     let old = c.args.self.now in
     let found = c.in-Some.found in
-    let is = found_latest old.set old.moment c.args.proc.0 c.args.aim found (c.latest.ensures.latest ∙ c.in-Some.is) in
+    let is = found_latest old.set old.moment c.args.proc.0 c.args.aim found (c.latest.ensures.there ∙ c.in-Some.is) in
     subst (λ set. found ≤ length (serial set)) (sym c.latest.ensures.set)
     (omega (arith, is.within, c.moment-moment.ensures.within, c.moment-moment.ensures.value))

@@ -19,13 +19,16 @@ latest_up_to-requires-clause-seek c =
       can = subst (λ set. CanAim set c.args.proc.0 c.args.aim) (sym same) c.requires;
     }
 
-pub returns-clause-latest : goal.returns-clause-latest
-returns-clause-latest c =
+pub returns : goal.returns
+returns c =
     let p = c.args.proc.0 in
     let mid = c.restart.new.self in
     let same = c.restart.ensures.set ∙ ap (λ (i : Instant). i.set) c.self-2.view_is ∙ c.copies.invariant.same in
-    c.copies.invariant.latest
-    ∙ ap (λ set. last_up_to set c.copies.high p c.args.aim) (sym same)
-    ∙ c.latest_up_to.ensures.latest
-    ∙ ap (option_or c.latest_up_to.result) (none_before mid.machine.set p mid.moment c.args.aim c.restart.ensures.moment)
-    ∙ or_none c.latest_up_to.result
+    record {
+      set = c.latest_up_to.ensures.on.set ∙ same;
+      there = c.copies.invariant.latest
+          ∙ ap (λ set. last_up_to set c.copies.high p c.args.aim) (sym same)
+          ∙ c.latest_up_to.ensures.latest
+          ∙ ap (option_or c.latest_up_to.result) (none_before mid.machine.set p mid.moment c.args.aim c.restart.ensures.moment)
+          ∙ or_none c.latest_up_to.result;
+    }
