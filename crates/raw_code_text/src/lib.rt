@@ -3,6 +3,7 @@
 //! The texts are those of `raw_tile_asm` and `raw_switch_asm`, which list whole programs.
 #![tactic(auto)]
 
+mod register;
 mod switch_line;
 mod tile_line;
 

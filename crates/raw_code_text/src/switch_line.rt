@@ -1,25 +1,15 @@
 //! The line of a switch's instruction.
 ghost use Rattle.std.specs.Prelude.{◌≡◌, ◌+◌, ◌*◌, ◌≤◌, ◌++◌, ◌∷◌, [], length};
 ghost use Rattle.raw_switch_isa.specs.Table.{row_of};
-ghost use Rattle.raw_switch_asm.specs.Listing.{register_text, network_text, side_letter, move_text, operand_text, operands_text, source_text, route_text, routed_text, routes_text, line_text};
+ghost use Rattle.raw_switch_asm.specs.Listing.{network_text, side_letter, move_text, operand_text, operands_text, source_text, route_text, routed_text, routes_text, line_text};
 
+use crate::register::push_register;
 use raw_asm::separator;
 use raw_state_text::{LINE_SIZE, Line};
 use raw_switch_isa::{SwitchIns, SwitchOperand, SwitchSource};
 
 // The letters of the sides by the indices of their ends in a network.
 const SIDES: &[u8; 5] = b"NESWP";
-
-// Appends a register.
-#[tactic(auto, using(crate::proofs::Lengths::byte_length))]
-fn push_register(line: &mut Line, register: u8)
-    requires { length line.old + 21 ≤ LINE_SIZE }
-    ensures text { line.new ≡ line.old ++ register_text register }
-    ensures len { length line.new ≤ length line.old + 4 }
-{
-    line.push_text(b"r");
-    line.push_number(u64::from(register));
-}
 
 // Appends the network of an end, with its `:`.
 fn push_network(line: &mut Line, end: u8)
@@ -51,7 +41,7 @@ fn push_move(line: &mut Line, src: u8)
     ensures len { length line.new ≤ length line.old + 20 }
 {
     if src < 4 {
-        push_register(line, src);
+        push_register(line, b'r', src);
     } else {
         push_network(line, src - 4);
         push_side(line, src - 4);
@@ -65,7 +55,7 @@ fn push_operand(line: &mut Line, ins: SwitchIns, operand: SwitchOperand)
     ensures len { length line.new ≤ length line.old + 20 }
 {
     match operand {
-        SwitchOperand::Rd => push_register(line, ins.rd),
+        SwitchOperand::Rd => push_register(line, b'r', ins.rd),
         SwitchOperand::Src => push_move(line, ins.src),
         SwitchOperand::Target => line.push_number(u64::from(ins.target)),
     }
@@ -91,7 +81,7 @@ fn push_source(line: &mut Line, source: SwitchSource)
     ensures len { length line.new ≤ length line.old + 4 }
 {
     match source {
-        SwitchSource::Register(register) => push_register(line, register),
+        SwitchSource::Register(register) => push_register(line, b'r', register),
         SwitchSource::Input(input) => push_side(line, input),
     }
 }

@@ -1,21 +1,12 @@
 //! The line of a tile's instruction.
 ghost use Rattle.std.specs.Prelude.{◌≡◌, ◌+◌, ◌<◌, ◌≤◌, ◌++◌, false, codes, length};
 ghost use Rattle.std.specs.Fmt.{digit_glyph};
-ghost use Rattle.raw_tile_asm.specs.Listing.{register_text, signed_text, hex_text, branch_text, operand_text, line_text};
+ghost use Rattle.raw_tile_asm.specs.Listing.{signed_text, hex_text, branch_text, operand_text, line_text};
 
+use crate::register::push_register;
 use raw_asm::separator;
 use raw_state_text::{LINE_SIZE, Line};
 use raw_tile_isa::{MAX_TILE_CODE, Operand, TileIns};
-
-// Appends a register.
-fn push_register(line: &mut Line, register: u8)
-    requires { length line.old + 21 ≤ LINE_SIZE }
-    ensures text { line.new ≡ line.old ++ register_text register }
-    ensures len { length line.new ≤ length line.old + 21 }
-{
-    line.push_text(b"$");
-    line.push_number(u64::from(register));
-}
 
 // Appends 16 bits as a signed number.
 fn push_signed(line: &mut Line, imm: u16)
@@ -46,9 +37,9 @@ fn hex_digit(value: u8) -> u8
 // Appends 16 bits in four hexadecimal digits.
 #[tactic(auto, using(crate::proofs::HexDigits::four_digits))]
 fn push_hex(line: &mut Line, imm: u16)
-    requires { length line.old + 21 ≤ LINE_SIZE }
+    requires { length line.old + 6 ≤ LINE_SIZE }
     ensures text { line.new ≡ line.old ++ hex_text imm }
-    ensures len { length line.new ≤ length line.old + 21 }
+    ensures len { length line.new ≡ length line.old + 6 }
 {
     let first = hex_digit((imm / 4096) as u8);
     let second = hex_digit((imm / 256 % 16) as u8);
@@ -84,9 +75,9 @@ fn push_operand(line: &mut Line, ins: TileIns, place: u32, form: Operand)
     ensures len { length line.new ≤ length line.old + 44 }
 {
     match form {
-        Operand::Rd => push_register(line, ins.rd),
-        Operand::Rs => push_register(line, ins.rs),
-        Operand::Rt => push_register(line, ins.rt),
+        Operand::Rd => push_register(line, b'$', ins.rd),
+        Operand::Rs => push_register(line, b'$', ins.rs),
+        Operand::Rt => push_register(line, b'$', ins.rt),
         Operand::Shift => line.push_number(u64::from(ins.sh)),
         Operand::Signed => push_signed(line, ins.imm),
         Operand::Unsigned => push_hex(line, ins.imm),
@@ -95,7 +86,7 @@ fn push_operand(line: &mut Line, ins: TileIns, place: u32, form: Operand)
         Operand::Memory => {
             push_signed(line, ins.imm);
             line.push_text(b"(");
-            push_register(line, ins.rs);
+            push_register(line, b'$', ins.rs);
             line.push_text(b")");
         }
     }

@@ -143,18 +143,6 @@ pub fn text_in(alloc: Global, input: Vec<u8>) -> Result<SetText, Failure>
     }
 }
 
-// The set that a text means.
-fn set_of_text(alloc: Global, input: Vec<u8>) -> Result<Set, Failure>
-    requires { length input.items ≤ MAX_TEXT }
-    ensures meaning { IfOk result (Means InputForm.Text input.items) }
-    ensures cause { IfErr result (IsRefusalOf InputForm.Text input.items) }
-{
-    match text_in(alloc, input) {
-        Ok(read) => Ok(read.set),
-        Err(failure) => Err(failure),
-    }
-}
-
 // The set whose image these bytes are.
 fn set_of_image(alloc: Global, bytes: &[u8]) -> Result<Set, Failure>
     ensures meaning { IfOk result (Means InputForm.Image bytes.now) }
@@ -228,7 +216,10 @@ pub fn set_in(alloc: Global, form: SetForm, input: Vec<u8>) -> Result<Set, Failu
     ensures cause { IfErr result (IsRefusalOf (whole form) input.items) }
 {
     match form {
-        SetForm::Text => set_of_text(alloc, input),
+        SetForm::Text => match text_in(alloc, input) {
+            Ok(read) => Ok(read.set),
+            Err(failure) => Err(failure),
+        },
         SetForm::Image => set_of_image(alloc, &input),
         SetForm::Plan => set_of_plan(alloc, input),
         SetForm::Flow => set_of_flow(alloc, input),

@@ -8,7 +8,7 @@ ghost use Rattle.raw_grid.specs.Topology.{proc_count};
 ghost use Rattle.raw_model.specs.Rest.{is_trap};
 ghost use Rattle.raw_model.specs.Waits.{waits_for};
 ghost use Rattle.raw_model.specs.Outcomes.{outcome};
-ghost use Rattle.raw_model.specs.Outcomes.Outcome.{Deadlock, Trapped, Limit, Stuck};
+ghost use Rattle.raw_model.specs.Outcomes.Outcome.{Deadlock, Trapped, Stuck};
 ghost use Rattle.raw_model.specs.StateTexts.{wait_line};
 ghost use Rattle.raw_outcome.specs.Told.{told};
 ghost use Rattle.raw_report.specs.Locals.{mark_at};
@@ -21,15 +21,6 @@ use raw_model::Mark;
 use raw_outcome::{Outcome, chain_end};
 use raw_serial::Machine;
 use raw_state_text::{put_line, wait_line};
-
-// The mark of a processor; a port has that of a tile that goes on.
-fn mark_at(m: &Machine<'_>, p: ProcId) -> Mark
-    requires { p.0 < proc_count m.now.set.topo }
-    ensures { result ≡ mark_at (slice_get m.now.state.locals p.0) }
-{
-    let processor = m.processor(p);
-    processor.mark()
-}
 
 // Puts the wait of a processor, and of each that the one before it waits for, of at most so many.
 fn put_waits<K: Sink>(m: &Machine<'_>, first: ProcId, count: u32, out: &mut K) -> Result<(), Failed>
@@ -71,19 +62,11 @@ fn put_trapped<K: Sink>(m: &Machine<'_>, p: ProcId, out: &mut K) -> Result<(), F
     ensures { Writes (K.sight out.old) (K.sight out.new)
         (outcome_lines m.now.set m.now.state (Trapped p.0)) result }
 {
-    match mark_at(m, p) {
+    let processor = m.processor(p);
+    match processor.mark() {
         Mark::Trapped(cause) => put_line(&trapped_line(p, cause), out),
         Mark::Going | Mark::Halted => Ok(()),
     }
-}
-
-// Puts the line of a processor that is at the limit.
-fn put_limit<K: Sink>(m: &Machine<'_>, p: ProcId, out: &mut K) -> Result<(), Failed>
-    requires { p.0 < proc_count m.now.set.topo }
-    ensures { Writes (K.sight out.old) (K.sight out.new)
-        (outcome_lines m.now.set m.now.state (Limit p.0)) result }
-{
-    put_line(&limit_line(p, m.count(p)), out)
 }
 
 // Puts the chain of waits from a processor, and its end.
@@ -109,7 +92,7 @@ pub fn put_outcome<K: Sink>(m: &Machine<'_>, o: Outcome, out: &mut K) -> Result<
         Outcome::Done => put_line(&done_line(), out),
         Outcome::Deadlock { least, length } => put_cycle(m, least, length, out),
         Outcome::Trapped { p } => put_trapped(m, p, out),
-        Outcome::Limit { p } => put_limit(m, p, out),
+        Outcome::Limit { p } => put_line(&limit_line(p, m.count(p)), out),
         Outcome::Stuck { p } => put_chain(m, p, out),
     }
 }

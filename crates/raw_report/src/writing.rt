@@ -5,7 +5,7 @@ ghost use Rattle.raw_model.specs.Rest.{IsQuiet, IsRun};
 ghost use Rattle.raw_model.specs.Waits.{waits_for};
 ghost use Rattle.raw_model.specs.Outcomes.{outcome};
 ghost use Rattle.raw_outcome.specs.Told.{told};
-ghost use Rattle.raw_report.specs.Report.{report, report_of, outcome_lines, port_lines, tile_lines, show_lines, switch_lines, wire_lines, stall_lines};
+ghost use Rattle.raw_report.specs.Report.{report, outcome_lines, port_lines, tile_lines, show_lines, switch_lines, wire_lines, stall_lines};
 
 use crate::machine::{put_shows, put_stalls, put_switches, put_tiles, put_wires};
 use crate::outcome::put_outcome;
@@ -49,15 +49,6 @@ fn put_parts<K: Sink>(m: &Machine<'_>, o: Outcome, out: &mut K) -> Result<(), Fa
     put_grid(m, out)
 }
 
-// Puts the report of a machine: the texts of its parts are joined from the left.
-fn put_report<K: Sink>(m: &Machine<'_>, o: Outcome, out: &mut K) -> Result<(), Failed>
-    requires { told (waits_for m.now.set m.now.state) o ≡ outcome m.now.set m.now.state }
-    ensures { Writes (K.sight out.old) (K.sight out.new)
-        (report_of m.now.set m.now.state m.now.missed) result }
-{
-    put_parts(m, o, out)
-}
-
 /// Writes the report of a machine at rest, which came to rest as the outcome says. It takes no memory.
 ///
 /// Whatever order its processors step in, the report is the same. After `Failed` a front of it is
@@ -70,5 +61,5 @@ pub fn write_report<K: Sink>(m: &Machine<'_>, o: Outcome, out: &mut K) -> Result
 {
     // The set is asked for so that it is known that steps led to the machine's state.
     let _set = m.set();
-    put_report(m, o, out)
+    put_parts(m, o, out)
 }

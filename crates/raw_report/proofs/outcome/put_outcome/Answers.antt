@@ -1,12 +1,14 @@
 use Rattle.std.proofs.Common.{sym, ap, ◌∙◌}
+use Rattle.std.specs.Prelude.{slice_get}
 use Rattle.raw_model.specs.Waits.{waits_for}
 use Rattle.raw_model.specs.Outcomes.{is_unhalted}
 use Rattle.raw_model.specs.Rest.{is_trapped, is_at_limit}
 use Rattle.raw_outcome.specs.declared.ends.Outcome.TheVariants as answer
 use Rattle.raw_outcome.specs.Told.{told}
+use Rattle.raw_report.specs.Lines.{limit_line}
 use Rattle.raw_report.specs.Report.{outcome_lines}
 use Rattle.raw_state_text.proofs.Sections.{same_text}
-use Rattle.raw_report.proofs.Ends.{told_says, first_there, first_trapped, cycle_there, cycle_whole}
+use Rattle.raw_report.proofs.Ends.{count_is, told_says, first_there, first_trapped, cycle_there, cycle_whole}
 use Rattle.raw_report.proofs.outcome.put_outcome.Goals as goal
 
 pub returns-in-Done : goal.returns-in-Done
@@ -39,13 +41,24 @@ put_trapped-requires g c =
       trapped = first_trapped m.set m.state valid c.in-Trapped.p.0 says.1;
     }
 
-pub put_limit-requires : goal.put_limit-requires
-put_limit-requires g c =
+pub count-requires : goal.count-requires
+count-requires g c =
     let m = c.args.m.now in
     let valid = c.set-set.ensures.valid in
     let fits = c.set-set.ensures.fits in
     let says = told_says m.set m.state valid (answer.Limit c.in-Limit.p) (ap (told (waits_for m.set m.state)) (sym c.in-Limit.is) ∙ c.requires) in
     first_there m.set m.state valid (is_at_limit m.set) c.in-Limit.p.0 fits says.2
+
+pub returns-in-Limit : goal.returns-in-Limit
+unfolding outcome_lines
+returns-in-Limit g c =
+    let m = c.args.m.now in
+    let p = c.in-Limit.p.0 in
+    same_text _ _ _ _ _
+    (c.limit_line.ensures
+    ∙ ap (limit_line p) (count_is (slice_get m.state.locals p) c.count.result c.count.ensures.value)
+    ∙ ap (outcome_lines m.set m.state) (ap (told (waits_for m.set m.state)) (sym c.in-Limit.is) ∙ c.requires))
+    c.put_line-in-Limit.ensures
 
 pub put_chain-requires : goal.put_chain-requires
 put_chain-requires g c =

@@ -1,7 +1,7 @@
 use Rattle.std.proofs.Common.{length, ap, arith, length-append}
 use Rattle.std.specs.Fmt.{decimal}
 use Rattle.raw_code_text.proofs.Lengths.{byte_length}
-use Rattle.raw_code_text.proofs.switch_line.push_register.Goals as goal
+use Rattle.raw_code_text.proofs.register.push_register.Goals as goal
 
 pub returns-clause-len : goal.returns-clause-len
 returns-clause-len c =
