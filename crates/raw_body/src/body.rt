@@ -94,10 +94,7 @@ impl Origin {
 
     /// The value that is one of its operands.
     pub fn value(self, position: Position) -> Option<RowValue> {
-        match self.operand(position) {
-            Some(operand) => operand.value(),
-            None => None,
-        }
+        self.operand(position)?.value()
     }
 
     /// The source of which it is a word.
@@ -110,10 +107,7 @@ impl Origin {
 
     /// Whether it is an input.
     pub fn is_input(self) -> bool {
-        match self {
-            Origin::Input(_) => true,
-            Origin::Made { .. } => false,
-        }
+        matches!(self, Origin::Input(_))
     }
 }
 
@@ -232,35 +226,25 @@ impl Body {
 
     /// Where a value is used, an operation on it twice.
     pub fn uses(&self, value: ValueId) -> &[Use] {
-        match self.values.get(value.0) {
-            Some(value) => value.uses.as_slice(),
-            None => &[],
-        }
+        let value = self.values.get(value.0);
+        value.map_or(&[], |value| value.uses.as_slice())
     }
 
     /// Which of the outs a value is.
     pub fn out_of(&self, value: ValueId) -> Option<OutId> {
-        match self.values.get(value.0) {
-            Some(value) => value.out,
-            None => None,
-        }
+        self.values.get(value.0)?.out
     }
 
     /// The sink to which a value goes.
     pub fn sink_of(&self, value: ValueId) -> Option<SinkId> {
         let out = self.out_of(value)?;
-        match self.outs.get(out.0) {
-            Some(out) => Some(out.sink),
-            None => None,
-        }
+        Some(self.outs.get(out.0)?.sink)
     }
 
     /// The words that a value is taken for in rows below the first.
     pub(crate) fn firsts(&self, value: ValueId) -> &[u32] {
-        match self.values.get(value.0) {
-            Some(value) => value.firsts.as_slice(),
-            None => &[],
-        }
+        let value = self.values.get(value.0);
+        value.map_or(&[], |value| value.firsts.as_slice())
     }
 
     /// What a value is taken for where the rows of the body are so many times before the first, if any of its users
@@ -275,13 +259,8 @@ impl Body {
 
     /// How many values are made, and not put in.
     pub fn made_count(&self) -> usize {
-        let mut count: usize = 0;
-        for value in (0..self.count()).map(ValueId) {
-            if !self.origin(value).is_input() {
-                count = count.saturating_add(1);
-            }
-        }
-        count
+        let values = self.values.iter();
+        values.filter(|value| !value.origin.is_input()).count()
     }
 
     /// How many times the rows of the body are before those of a use, at most.

@@ -25,21 +25,7 @@ struct Building<'a> {
 
 // Whether two lists are the same as far as both go.
 fn agree(known: &[u32], words: &[u32]) -> bool {
-    for place in 0..known.len().min(words.len()) {
-        if known.get(place) != words.get(place) {
-            return false;
-        }
-    }
-    true
-}
-
-// A list from its end to its start.
-fn reversed(alloc: Global, words: &[u32]) -> Result<Vec<u32>, AllocError> {
-    let mut reversed = Vec::new(alloc);
-    for word in words.iter().rev() {
-        reversed.push(*word)?;
-    }
-    Ok(reversed)
+    known.iter().zip(words).all(|(one, other)| one == other)
 }
 
 // An operation. A complement is `nor` of a value with itself, which loads no word.
@@ -61,16 +47,6 @@ fn same_as(operand: Operand) -> Origin {
         a: operand,
         b: Operand::Word(0),
     }
-}
-
-// Whether all words of a list are this one.
-fn are_all(words: &[u32], word: u32) -> bool {
-    for other in words {
-        if *other != word {
-            return false;
-        }
-    }
-    true
 }
 
 // Adds how often each value is an out.
@@ -144,16 +120,9 @@ impl<'a> Building<'a> {
     // Whether a term has a value: each input, each operation that is needed, and what is needed and is itself some rows
     // before.
     fn has_value(&self, term: u32) -> bool {
-        if self.folded.source(term).is_some() {
-            return true;
-        }
-        if self.folded.is_root(term) {
-            return self.needed.at(term as usize);
-        }
-        match self.folded.table.node(term) {
-            Some(Node::Apply { .. }) => self.needed.at(term as usize),
-            _ => false,
-        }
+        let is_operation = matches!(self.folded.table.node(term), Some(Node::Apply { .. }));
+        self.folded.source(term).is_some()
+            || self.needed.at(term as usize) && (is_operation || self.folded.is_root(term))
     }
 
     // Each term that has a value gets it.
@@ -181,10 +150,8 @@ impl<'a> Building<'a> {
 
     // The words that a value is taken for below the first row.
     fn firsts_of(&self, value: ValueId) -> &[u32] {
-        match self.firsts.get(value.0) {
-            Some(firsts) => firsts.as_slice(),
-            None => &[],
-        }
+        let firsts = self.firsts.get(value.0);
+        firsts.map_or(&[], |firsts| firsts.as_slice())
     }
 
     // From now on a value is taken for these words, where it was for some of them before.
@@ -226,9 +193,9 @@ impl<'a> Building<'a> {
 
     // What a term is, some rows before, as an operand.
     fn operand_of(&mut self, alloc: Global, earlier: Earlier) -> Result<Operand, AllocError> {
-        let Earlier { term, words } = earlier;
+        let Earlier { term, mut words } = earlier;
         if let Some(word) = self.folded.table.word(term) {
-            if are_all(&words, word) {
+            if words.iter().all(|other| *other == word) {
                 return Ok(Operand::Word(word));
             }
         }
@@ -237,7 +204,7 @@ impl<'a> Building<'a> {
         if back == 0 {
             return Ok(Operand::of_row(value));
         }
-        let words = reversed(alloc, &words)?;
+        words.reverse();
         let value = self.with_firsts(alloc, value, words)?;
         Ok(Operand::Value(RowValue { value, back }))
     }

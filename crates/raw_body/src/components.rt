@@ -33,14 +33,6 @@ struct Walk<'a> {
 }
 
 impl Walk<'_> {
-    // The next user of a value from a place of its uses on.
-    fn user_at(&self, value: ValueId, place: usize) -> Option<ValueId> {
-        match self.body.uses(value).get(place) {
-            Some(used) => Some(used.user),
-            None => None,
-        }
-    }
-
     // Begins with a value, if it has not been seen.
     fn enter(&mut self, value: ValueId) -> Result<(), AllocError> {
         if !self.seen.at(value) {
@@ -50,12 +42,12 @@ impl Walk<'_> {
         Ok(())
     }
 
-    // One step.
+    // One step: to the user at a place of the uses of a value.
     fn step(&mut self, value: ValueId, place: usize) -> Result<(), AllocError> {
-        match self.user_at(value, place) {
-            Some(user) => {
+        match self.body.uses(value).get(place).copied() {
+            Some(used) => {
                 self.stack.push((value, place.saturating_add(1)))?;
-                self.enter(user)
+                self.enter(used.user)
             }
             None => {
                 self.done.push(value)?;
@@ -162,18 +154,14 @@ impl Components {
 
     /// The group of a value; one behind all others of what is no value of the body.
     pub fn group(&self, value: ValueId) -> GroupId {
-        match self.of.at(value) {
-            Some(group) => group,
-            None => GroupId(self.members.len()),
-        }
+        let behind = GroupId(self.members.len());
+        self.of.at(value).unwrap_or(behind)
     }
 
     /// The values of a group, by rising numbers.
     pub fn members(&self, group: GroupId) -> &[ValueId] {
-        match self.members.get(group.0) {
-            Some(members) => members.as_slice(),
-            None => &[],
-        }
+        let members = self.members.get(group.0);
+        members.map_or(&[], |members| members.as_slice())
     }
 
     /// Whether a value needs others that need it.

@@ -83,10 +83,7 @@ impl Visit<'_> {
 
     // How deep an operand is.
     fn depth(&self, operand: Option<ValueId>) -> usize {
-        match operand {
-            Some(operand) => self.depths.at(operand),
-            None => 0,
-        }
+        operand.map_or(0, |operand| self.depths.at(operand))
     }
 
     // The operands of a value, the deeper one first.

@@ -41,15 +41,9 @@ impl<N: Numbered> Board<N> {
         !self.taken.at(self.place(lane, time))
     }
 
-    /// Takes a lane in a cycle.
-    pub(crate) fn take(&mut self, lane: N, time: usize) {
+    /// Takes a lane in a cycle, or gives it back.
+    pub(crate) fn put(&mut self, lane: N, time: usize, is_taken: bool) {
         let place = self.place(lane, time);
-        self.taken.put(place, true);
-    }
-
-    /// Gives it back.
-    pub(crate) fn free(&mut self, lane: N, time: usize) {
-        let place = self.place(lane, time);
-        self.taken.put(place, false);
+        self.taken.put(place, is_taken);
     }
 }

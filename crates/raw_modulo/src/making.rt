@@ -172,13 +172,13 @@ impl Schedule<'_> {
         if !self.tiles.is_free(tile, time) {
             return false;
         }
-        self.tiles.take(tile, time);
+        self.tiles.put(tile, time, true);
         self.sent.put(value, Some(time));
         if self.send_made(value, time, None) {
             return true;
         }
         self.sent.put(value, None);
-        self.tiles.free(tile, time);
+        self.tiles.put(tile, time, false);
         false
     }
 
@@ -223,7 +223,7 @@ impl Schedule<'_> {
         if !self.tiles.is_free(tile, time) {
             return false;
         }
-        self.tiles.take(tile, time);
+        self.tiles.put(tile, time, true);
         self.made.put(value, Some(time));
         let is_done = self.provide(value, direct, time, due);
         if !is_done {
@@ -273,24 +273,18 @@ impl Schedule<'_> {
         self.made.put(value, None);
     }
 
-    // Words that are to be taken from queues are received no more by instructions of their own.
-    fn release_operands(&mut self, value: ValueId, direct: Direct) {
+    // Words that are to be taken from queues are received by instructions of their own, or are not any more.
+    fn receive_operands(&mut self, value: ValueId, direct: Direct, is_received: bool) {
         for position in Position::BOTH {
-            if is_among(direct, position) {
-                if let Some(RowLocal { local, .. }) = self.task.operand(value, position) {
-                    self.release(local);
+            match self.task.operand(value, position) {
+                Some(RowLocal { local, .. }) if is_among(direct, position) => {
+                    if is_received {
+                        self.restore(local);
+                    } else {
+                        self.release(local);
+                    }
                 }
-            }
-        }
-    }
-
-    // They are again.
-    fn restore_operands(&mut self, value: ValueId, direct: Direct) {
-        for position in Position::BOTH {
-            if is_among(direct, position) {
-                if let Some(RowLocal { local, .. }) = self.task.operand(value, position) {
-                    self.restore(local);
-                }
+                _ => {}
             }
         }
     }
@@ -299,7 +293,7 @@ impl Schedule<'_> {
     fn make_with(&mut self, value: ValueId, direct: Direct, window: Window) -> bool {
         let first = self.ready_with(value, direct).max(window.from);
         let last = first.saturating_add(self.interval.saturating_mul(2));
-        self.release_operands(value, direct);
+        self.receive_operands(value, direct, false);
         for time in first..=last.min(window.until) {
             if self.left == 0 {
                 break;
@@ -308,7 +302,7 @@ impl Schedule<'_> {
                 return true;
             }
         }
-        self.restore_operands(value, direct);
+        self.receive_operands(value, direct, true);
         false
     }
 
@@ -324,22 +318,17 @@ impl Schedule<'_> {
         false
     }
 
-    // Whether an operand is taken from its queue.
-    fn is_taken(&self, value: ValueId, position: Position) -> bool {
-        match self.task.operand(value, position) {
-            Some(RowLocal { local, .. }) => match self.comings.at(local) {
-                Some(coming) => coming.taken.is_some(),
-                None => false,
-            },
-            None => false,
-        }
+    // When an operand is taken from its queue, where it is.
+    fn taken(&self, value: ValueId, position: Position) -> Option<usize> {
+        let RowLocal { local, .. } = self.task.operand(value, position)?;
+        self.comings.at(local)?.taken
     }
 
     /// An operation is not done. All is as it was before it.
     pub(crate) fn take_back(&mut self, value: ValueId) {
-        let first = self.is_taken(value, Position::First);
-        let second = self.is_taken(value, Position::Second);
+        let first = self.taken(value, Position::First).is_some();
+        let second = self.taken(value, Position::Second).is_some();
         self.unmake(value);
-        self.restore_operands(value, [first, second]);
+        self.receive_operands(value, [first, second], true);
     }
 }

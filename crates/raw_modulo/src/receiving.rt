@@ -20,10 +20,7 @@ impl Coming {
     // Its stay in the queue.
     fn stay(self) -> Stay {
         let from = self.arrival.saturating_mul(2);
-        let until = match self.taken {
-            Some(taken) => taken,
-            None => self.received.saturating_mul(2),
-        };
+        let until = self.taken.unwrap_or(self.received.saturating_mul(2));
         Stay { from, until }
     }
 }
@@ -38,7 +35,7 @@ impl Schedule<'_> {
         if !self.inward.add(Lane::of(tile, coming.net), coming.stay()) {
             return false;
         }
-        self.tiles.take(tile, coming.received);
+        self.tiles.put(tile, coming.received, true);
         self.comings.put(local, Some(coming));
         if self.task.in_memory.at(local) {
             self.stored.put(local, Some(coming.received));
@@ -93,31 +90,25 @@ impl Schedule<'_> {
             self.inward
                 .remove(Lane::of(tile, coming.net), coming.stay());
             if coming.taken.is_none() {
-                self.tiles.free(tile, coming.received);
+                self.tiles.put(tile, coming.received, false);
             }
         }
     }
 
     /// A word is received by an instruction of its own, as it was at first.
     pub(crate) fn restore(&mut self, local: LocalId) {
-        if let Some(coming) = self.comings.at(local) {
-            let coming = Coming {
-                taken: None,
-                ..coming
-            };
+        if let Some(mut coming) = self.comings.at(local) {
+            coming.taken = None;
             self.add_coming(local, coming);
         }
     }
 
     /// The user of a word takes it from the queue in a half cycle. False where order or room do not allow it.
     pub(crate) fn take_directly(&mut self, local: LocalId, taken: usize) -> bool {
-        let Some(coming) = self.comings.at(local) else {
+        let Some(mut coming) = self.comings.at(local) else {
             return false;
         };
-        let coming = Coming {
-            taken: Some(taken),
-            ..coming
-        };
+        coming.taken = Some(taken);
         let tile = self.task.locals.at(local).tile;
         if taken / 2 <= coming.arrival
             || !self.inward.add(Lane::of(tile, coming.net), coming.stay())
@@ -130,16 +121,11 @@ impl Schedule<'_> {
 
     /// It does not.
     pub(crate) fn untake(&mut self, local: LocalId) {
-        if let Some(coming) = self.comings.at(local) {
+        if let Some(mut coming) = self.comings.at(local) {
             if coming.taken.is_some() {
                 self.release(local);
-                self.comings.put(
-                    local,
-                    Some(Coming {
-                        taken: None,
-                        ..coming
-                    }),
-                );
+                coming.taken = None;
+                self.comings.put(local, Some(coming));
             }
         }
     }

@@ -3,6 +3,7 @@ use raw_body::Site;
 use raw_frame::{Part, TileId};
 use raw_grid::{Dir, Side};
 use std::alloc::{AllocError, Global};
+use std::cmp::Ordering;
 
 /// A word passes a switch.
 #[derive(Clone, Copy, PartialEq, Eq)]
@@ -56,23 +57,19 @@ pub(crate) struct Goal {
 
 // The side to which a word goes on along its row.
 fn along_row(part: Part, at: TileId, goal: TileId) -> Option<Side> {
-    if part.column(at) < part.column(goal) {
-        Some(Side::E)
-    } else if part.column(at) > part.column(goal) {
-        Some(Side::W)
-    } else {
-        None
+    match part.column(at).cmp(&part.column(goal)) {
+        Ordering::Less => Some(Side::E),
+        Ordering::Greater => Some(Side::W),
+        Ordering::Equal => None,
     }
 }
 
 // The same along its column.
 fn along_column(part: Part, at: TileId, goal: TileId) -> Option<Side> {
-    if part.row(at) < part.row(goal) {
-        Some(Side::S)
-    } else if part.row(at) > part.row(goal) {
-        Some(Side::N)
-    } else {
-        None
+    match part.row(at).cmp(&part.row(goal)) {
+        Ordering::Less => Some(Side::S),
+        Ordering::Greater => Some(Side::N),
+        Ordering::Equal => None,
     }
 }
 
@@ -158,11 +155,7 @@ impl Route {
 
     /// Whether two ways are one.
     pub(crate) fn is_same(&self, other: &Route) -> bool {
-        for hop in &self.hops {
-            if !other.hops.contains(hop) {
-                return false;
-            }
-        }
-        self.hops.len() == other.hops.len()
+        let hops = self.hops.as_slice();
+        hops.len() == other.hops.len() && hops.iter().all(|hop| other.hops.contains(hop))
     }
 }

@@ -84,10 +84,8 @@ impl<'a> Running<'a> {
     // The first member of a group.
     fn first_member(&self, group: GroupId) -> ValueId {
         let task = self.schedule.task;
-        match task.components.members(group).first() {
-            Some(value) => *value,
-            None => ValueId(0),
-        }
+        let members = task.components.members(group);
+        members.first().copied().unwrap_or(ValueId(0))
     }
 
     // When all operations of a group can be done at the earliest.
@@ -238,13 +236,9 @@ impl<'a> Running<'a> {
 
     // An input leaves its source.
     fn take_input(&mut self, input: NextInput) -> Result<bool, AllocError> {
-        let NextInput {
-            value,
-            source,
-            from,
-        } = input;
+        let (value, source) = (input.value, input.source);
         let interval = self.schedule.interval;
-        let latest = from.saturating_add(interval);
+        let latest = input.from.saturating_add(interval);
         let until = match self.first.at(source) {
             Some(first) => first.saturating_add(interval).saturating_sub(1).min(latest),
             None => latest,
@@ -252,7 +246,7 @@ impl<'a> Running<'a> {
         let is_sent = self.schedule.send(Departure {
             value,
             pushed: None,
-            from,
+            from: input.from,
             until,
             due: None,
         });

@@ -126,7 +126,7 @@ impl<'a> Schedule<'a> {
                 return None;
             }
             if self.tiles.is_free(tile, at) {
-                self.tiles.take(tile, at);
+                self.tiles.put(tile, at, true);
                 return Some(at);
             }
         }
@@ -138,7 +138,7 @@ impl<'a> Schedule<'a> {
         for step in 1..self.interval {
             let at = time.saturating_add(step);
             if self.tiles.is_free(tile, at) {
-                self.tiles.take(tile, at);
+                self.tiles.put(tile, at, true);
                 return Some(at);
             }
         }
@@ -148,7 +148,7 @@ impl<'a> Schedule<'a> {
     // A cycle of a tile is free again.
     pub(crate) fn give_back(&mut self, tile: TileId, time: Option<usize>) {
         if let Some(time) = time {
-            self.tiles.free(tile, time);
+            self.tiles.put(tile, time, false);
         }
     }
 }

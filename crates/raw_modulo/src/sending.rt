@@ -67,11 +67,9 @@ impl Schedule<'_> {
     // Takes the place of its first hop, or gives it back.
     fn mark_leaving(&mut self, value: ValueId, message: Message, is_taken: bool) {
         let place = Lane::of(self.task.homes.at(value), message.net);
-        match (self.task.body.origin(value).source(), is_taken) {
-            (Some(source), true) => self.sources.take(source, message.first),
-            (Some(source), false) => self.sources.free(source, message.first),
-            (None, true) => self.leaving.take(place, message.first),
-            (None, false) => self.leaving.free(place, message.first),
+        match self.task.body.origin(value).source() {
+            Some(source) => self.sources.put(source, message.first, is_taken),
+            None => self.leaving.put(place, message.first, is_taken),
         }
     }
 
@@ -79,10 +77,8 @@ impl Schedule<'_> {
     fn has_links(&self, route: &Route, message: Message) -> bool {
         for hop in &route.hops {
             let link = Link::of(hop.tile, message.net, hop.to);
-            if !self
-                .links
-                .is_free(link, message.first.saturating_add(hop.after))
-            {
+            let time = message.first.saturating_add(hop.after);
+            if !self.links.is_free(link, time) {
                 return false;
             }
         }
@@ -98,11 +94,7 @@ impl Schedule<'_> {
         for hop in &route.hops {
             let link = Link::of(hop.tile, message.net, hop.to);
             let time = message.first.saturating_add(hop.after);
-            if is_taken {
-                self.links.take(link, time);
-            } else {
-                self.links.free(link, time);
-            }
+            self.links.put(link, time, is_taken);
         }
         self.mark_traffic(message.net, route.hops.len(), is_taken);
     }
@@ -244,11 +236,9 @@ impl Schedule<'_> {
     /// A word is not sent.
     pub(crate) fn unsend(&mut self, value: ValueId) {
         if let Some(message) = self.messages.at(value) {
-            let is_input = self.task.body.origin(value).is_input();
-            let pushed = if is_input {
-                None
-            } else {
-                self.sent.at(value).or(self.made.at(value))
+            let pushed = match self.task.body.origin(value).source() {
+                Some(_) => None,
+                None => self.sent.at(value).or(self.made.at(value)),
             };
             self.mark_leaving(value, message, false);
             self.mark_links(value, message, false);

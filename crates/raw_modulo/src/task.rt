@@ -215,13 +215,8 @@ impl<'a> Task<'a> {
 
     /// Whether a value needs itself, some rows before.
     pub fn is_on_circle(&self, value: ValueId) -> bool {
-        let body = self.body;
-        for used in body.uses(value) {
-            if used.user == value {
-                return true;
-            }
-        }
-        self.components.is_on_circle(value)
+        let uses = self.body.uses(value);
+        uses.iter().any(|used| used.user == value) || self.components.is_on_circle(value)
     }
 
     // Adds the local of a value at its home.
@@ -387,9 +382,9 @@ impl<'a> Task<'a> {
         for value in (0..self.body.count()).map(ValueId) {
             if let Some(word) = needed_constant(self.body.origin(value)) {
                 let number = self.constant_at(self.homes.at(value), word)?;
-                let old = self.constants.at(number);
-                let uses = old.uses.saturating_add(1);
-                self.constants.put(number, Constant { uses, ..old });
+                let mut constant = self.constants.at(number);
+                constant.uses = constant.uses.saturating_add(1);
+                self.constants.put(number, constant);
                 self.constant_of.put(value, Some(number));
             }
         }
@@ -421,14 +416,9 @@ impl<'a> Task<'a> {
 
     /// From now on a constant is loaded where it is used.
     pub fn drop_constant(&mut self, number: ConstantId) {
-        let old = self.constants.at(number);
-        self.constants.put(
-            number,
-            Constant {
-                is_kept: false,
-                ..old
-            },
-        );
+        let mut constant = self.constants.at(number);
+        constant.is_kept = false;
+        self.constants.put(number, constant);
     }
 
     /// Which local an operand of a value is, and how many times the rows before.
@@ -473,12 +463,8 @@ impl<'a> Task<'a> {
 
     /// Whether a value is brought to other tiles than its home.
     pub fn is_brought(&self, value: ValueId) -> bool {
-        let first = self.first_local(value);
-        let others = if self.body.origin(value).is_input() {
-            first
-        } else {
-            LocalId(first.0.saturating_add(1))
-        };
-        others < self.end_of_locals(value)
+        let own = usize::from(!self.body.origin(value).is_input());
+        let others = self.first_local(value).0.saturating_add(own);
+        others < self.end_of_locals(value).0
     }
 }
