@@ -3,7 +3,7 @@ use Rattle.std.proofs.Common.{◌≡◌, ℕ, zero, suc, ◌+◌, ◌<◌, ◌�
 use Rattle.std.specs.Prelude.{slice_get, slice_set}
 use Rattle.std.proofs.lemmas.Bool.{cases_eq}
 use Rattle.std.proofs.lemmas.List.{length-set}
-use Rattle.std.proofs.lemmas.Option.{same_Some}
+use Rattle.std.proofs.lemmas.Option.{same_Some, none-some}
 use Rattle.raw_cycle.specs.Chains.{walk}
 use Rattle.raw_cycle.proofs.Walks.{walk_none, walk_parts}
 use Rattle.raw_grid.specs.declared.parts.WireId.{WireId}
@@ -22,9 +22,6 @@ use Rattle.raw_whole.proofs.Lists.{put_same, put_other}
 use Rattle.raw_lost.specs.declared.root.RootKind.{RootKind}
 use Rattle.raw_lost.specs.Lost.{root_kind}
 use Rattle.raw_lost.specs.Known.{AreKinds}
-
-none_some : (w : ℕ) → None ≡ Some w → ⊥
-none_some w e = cc e
 
 module _ (set : ProgramSet) (valid : IsSet set) (k : ℕ) where
   abbrev far : ℕ → ℕ → ℕ
@@ -53,7 +50,7 @@ module _ (set : ProgramSet) (valid : IsSet set) (k : ℕ) where
 
   -- with one wait more the root is the same
   one_more : (n p r : ℕ) → root set (clock set k) n p ≡ Some r → root set (clock set k) (suc n) p ≡ Some r
-  one_more zero p r e = absurd (none_some r e)
+  one_more zero p r e = absurd (none-some r e)
   one_more (suc n) p r e = by_turn (turn_in set (clock set k) p) e (λ q f. one_more n q r f)
     where
       by_turn : (t : Turn) → root_at t p (λ v. root set (clock set k) n (far p v)) ≡ Some r
@@ -66,7 +63,7 @@ module _ (set : ProgramSet) (valid : IsSet set) (k : ℕ) where
 
   -- where there is a root, the waits end
   ends : (n p r : ℕ) → root set (clock set k) n p ≡ Some r → (m : ℕ) → n ≤ m → walk on m (Some p) ≡ None
-  ends zero p r e m le = absurd (none_some r e)
+  ends zero p r e m le = absurd (none-some r e)
   ends (suc n) p r e zero le = absurd (omega (arith, le))
   ends (suc n) p r e (suc m) le = by_turn (turn_in set (clock set k) p) e (λ q f. ends n q r f m (omega (arith, le)))
     where
@@ -93,7 +90,7 @@ module _ (set : ProgramSet) (valid : IsSet set) (k : ℕ) where
 
   no_root : (p : ℕ) → ComesRound set (clock set k) p → (n r : ℕ) → root set (clock set k) n p ≡ Some r → ⊥
   no_root p round n r e =
-      let on_and_on = goes_on p round n in none_some round.q (sym (ends n p r e on_and_on.0 on_and_on.1) ∙ on_and_on.2)
+      let on_and_on = goes_on p round n in none-some round.q (sym (ends n p r e on_and_on.0 on_and_on.1) ∙ on_and_on.2)
 
   pub same_root : (p : ℕ) (w : WireId) → p < proc_count set.topo → turn.Waits w ≡ turn_in set (clock set k) p
       → root set (clock set k) enough p ≡ root set (clock set k) enough (far p w.0)

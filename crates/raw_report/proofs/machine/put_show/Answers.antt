@@ -1,41 +1,30 @@
-use Rattle.std.proofs.Common.{◌≡◌, ℕ, ◌+◌, ◌*◌, List, ap, ◌∙◌}
+use Rattle.std.proofs.Common.{◌≡◌, ◌+◌, ◌*◌, ap, ◌∙◌}
 use Rattle.raw_model.specs.Program.{ProgramSet}
 use Rattle.raw_model.specs.TileTable.{word_at}
 use Rattle.raw_report.specs.Lines.{memory_word_line}
 use Rattle.raw_report.specs.Report.{memory_line}
-use Rattle.raw_state_text.proofs.Sections.{one_more, failed, all_written, same_text, next_number, no_number}
+use Rattle.raw_state_text.proofs.Sections.{same_text, failed_numbered, more_numbered, all_numbered}
+use Rattle.raw_report.proofs.machine.put_show.Given.{Over}
 use Rattle.raw_report.proofs.machine.put_show.Goals as goal
+use Rattle.raw_report.proofs.machine.put_show.Goals.{After-memory_line-line}
+
+-- the line of the next word
+line : (g : Over) (c : After-memory_line-line g) → c.memory_line-line.result ≡ memory_line c.args.m.now.set c.args.m.now.state c.args.show.tile (c.args.show.address + 4 * c.loop-k.k)
+line g c =
+    let tile = c.args.show.tile in
+    let address = c.args.show.address + 4 * c.loop-k.k in
+    c.memory_line-line.ensures
+    ∙ ap (λ (set : ProgramSet). memory_word_line set.topo tile address c.word_at.result) (c.set.view_is ∙ c.set-set.ensures.value)
+    ∙ ap (memory_word_line c.args.m.now.set.topo tile address) (c.word_at.ensures ∙ ap (λ memory. word_at memory address) c.memory_of-memory.ensures)
 
 pub returns-in_err-put_line : goal.returns-in_err-put_line
 returns-in_err-put_line g c =
-    let m = c.args.m.now in
-    let text : ℕ → List ℕ = λ k. memory_line m.set m.state c.args.show.tile (c.args.show.address + 4 * k) in
-    let set_is = c.set.view_is ∙ c.set-set.ensures.value in
-    let tile = c.args.show.tile in
-    let address = c.args.show.address + 4 * c.loop-k.k in
-    let line : c.memory_line-line.result ≡ memory_line m.set m.state tile address =
-    c.memory_line-line.ensures
-    ∙ ap (λ (set : ProgramSet). memory_word_line set.topo tile address c.word_at.result) set_is
-    ∙ ap (memory_word_line m.set.topo tile address) (c.word_at.ensures ∙ ap (λ memory. word_at memory address) c.memory_of-memory.ensures) in
-    failed _ _ _ _ _ _ _ c.loop-k.invariant (next_number text c.args.show.words c.loop-k.k c.loop-k-test.true) _
-    c.from_residual.result c.from_residual.ensures.0 (same_text _ _ _ _ _ line c.in_err-put_line.ensures)
+    failed_numbered _ c.args.show.words _ c.loop-k.invariant c.loop-k-test.true
+    (same_text _ _ _ _ _ (line g (goal.at.returns-in_err-put_line g c).After-memory_line-line) c.in_err-put_line.ensures) c.from_residual.ensures.0
 
 pub loop-k-preserved : goal.loop-k-preserved
 loop-k-preserved g c =
-    let m = c.args.m.now in
-    let text : ℕ → List ℕ = λ k. memory_line m.set m.state c.args.show.tile (c.args.show.address + 4 * k) in
-    let set_is = c.set.view_is ∙ c.set-set.ensures.value in
-    let tile = c.args.show.tile in
-    let address = c.args.show.address + 4 * c.loop-k.k in
-    let line : c.memory_line-line.result ≡ memory_line m.set m.state tile address =
-    c.memory_line-line.ensures
-    ∙ ap (λ (set : ProgramSet). memory_word_line set.topo tile address c.word_at.result) set_is
-    ∙ ap (memory_word_line m.set.topo tile address) (c.word_at.ensures ∙ ap (λ memory. word_at memory address) c.memory_of-memory.ensures) in
-    one_more _ _ _ _ _ _ _ c.loop-k.invariant (next_number text c.args.show.words c.loop-k.k c.loop-k-test.true) _
-    (same_text _ _ _ _ _ line c.in_ok-put_line.ensures)
+    more_numbered _ c.args.show.words _ c.loop-k.invariant c.loop-k-test.true (same_text _ _ _ _ _ (line g (goal.at.loop-k-preserved g c).After-memory_line-line) c.in_ok-put_line.ensures)
 
 pub returns : goal.returns
-returns g c =
-    let m = c.args.m.now in
-    let text : ℕ → List ℕ = λ k. memory_line m.set m.state c.args.show.tile (c.args.show.address + 4 * k) in
-    all_written _ _ _ _ _ c.loop-k.invariant (no_number text c.args.show.words c.loop-k.k c.loop-k-test.false)
+returns g c = all_numbered _ c.args.show.words _ c.loop-k.invariant c.loop-k-test.false
