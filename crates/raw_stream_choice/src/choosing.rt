@@ -40,10 +40,9 @@ fn if_proved(alloc: Global, input: &StreamInput, set: Set) -> Result<Option<Set>
     requires set { IsSetForStream input.now.stream input.now.words set }
     ensures { IfOk result (λ found. IfSome found (MeetsStream input.now.stream input.now.words)) }
 {
-    let mut set = set;
     // The set is read so that its rules are known.
     let _limit = set.limit;
-    if is_proved(alloc, &mut set, &input.stream)? {
+    if is_proved(alloc, &set, &input.stream)? {
         Ok(Some(set))
     } else {
         Ok(None)
