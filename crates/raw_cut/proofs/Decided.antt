@@ -1,4 +1,4 @@
--- The parts of a proof by rows, each found of a set that got other ports and another limit before.
+-- The parts of a proof by rows.
 use Rattle.std.proofs.Common.{◌≡◌, ℕ, List, [], length, ap, ◌∙◌, subst, arith}
 use Rattle.std.specs.Prelude.{replicate}
 use Rattle.raw_model.specs.Program.{ProgramSet}
@@ -15,8 +15,7 @@ use Rattle.raw_prove.specs.declared.unit.Unit.TheVariants as a
 use Rattle.raw_prove.specs.Units.{state_of}
 use Rattle.raw_prove.specs.Opened.{IsOpened}
 use Rattle.raw_cut.specs.Kept.{IsUnitWith, IsKeptWith, IsKept}
-use Rattle.raw_cut.specs.Parts.{ports_with, with_ports, IsSameBut, standing}
-use Rattle.raw_cut.proofs.Same.{leads_same}
+use Rattle.raw_cut.specs.Parts.{ports_with, with_ports, standing}
 use Rattle.raw_cut.proofs.Starting.{start_is}
 
 -- the words of constants are words
@@ -31,19 +30,11 @@ unit_less g p (a.Source unit) is = is
 unit_less g p (a.Sink port) is = record { kind = is.kind; got = is.got; room = omega (arith, is.room) }
 
 pub kept_less : (g : ProgramSet) (m : Machine) → IsKeptWith g 1 m → IsKept g m
-kept_less g m is = record { each = is.each; units = λ p x e. unit_less g p x (is.units p x e); each_end = is.each_end; ends = is.ends; wires = is.wires }
+kept_less g m is = record { valid = is.valid; each = is.each; units = λ p x e. unit_less g p x (is.units p x e); each_end = is.each_end; ends = is.ends; wires = is.wires }
 
 -- the terms of a table are not looked at
 pub kept_with_table : (g : ProgramSet) (m : Machine) (table : List Node) → IsKept g m → IsKept g (record m { table = table })
-kept_with_table g m table is = record { each = is.each; units = is.units; each_end = is.each_end; ends = is.ends; wires = is.wires }
-
--- ports that a set got in place of others
-pub roomy_from : (set seen roomy : ProgramSet) (s : Stream) (limit spare : ℕ) (rows : List (List ℕ)) → IsSameBut set seen → roomy ≡ with_ports seen limit (ports_with seen.topo s (length seen.ports) rows spare)
-    → roomy ≡ with_ports set limit (ports_with set.topo s (length set.ports) rows spare)
-roomy_from set seen roomy s limit spare rows same is =
-    is
-    ∙ ap (λ (g : ProgramSet). with_ports g limit (ports_with g.topo s (length seen.ports) rows spare)) same.same
-    ∙ ap (λ (n : ℕ). with_ports set limit (ports_with set.topo s n rows spare)) same.each
+kept_with_table g m table is = record { valid = is.valid; each = is.each; units = is.units; each_end = is.each_end; ends = is.ends; wires = is.wires }
 
 -- the start
 pub start_from : (set seen : ProgramSet) (s : Stream) (limit : ℕ) (m : Machine) → seen ≡ with_ports set limit (ports_with set.topo s (length set.ports) [] 0) → IsOpened seen m
@@ -52,11 +43,10 @@ start_from set seen s limit m is opened =
     ap (standing 0) opened.start ∙ ap (λ (g : ProgramSet). standing 0 (term_start g)) is ∙ start_is set s limit
 
 -- what leads from the start
-pub opens_from : (old new : ProgramSet) → IsSameBut old new → (s : Stream) (limit : ℕ) (carried : List Node) (from : Cut) (steps : List ℕ) (r : ℕ) (to : Cut) → carried ≡ known s → from ≡ start_cut old
-    → Leads new s limit carried from steps r to → Leads old s limit (known s) (start_cut old) steps r to
-opens_from old new is s limit carried from steps r to carried_is from_is leads =
-    let there : Leads old s limit carried from steps r to = leads_same old new is s limit carried from steps r to leads in
-    subst (λ (c : Cut). Leads old s limit (known s) c steps r to) from_is (subst (λ (ns : List Node). Leads old s limit ns from steps r to) carried_is there)
+pub opens_from : (set : ProgramSet) (s : Stream) (limit : ℕ) (carried : List Node) (from : Cut) (steps : List ℕ) (r : ℕ) (to : Cut) → carried ≡ known s → from ≡ start_cut set
+    → Leads set s limit carried from steps r to → Leads set s limit (known s) (start_cut set) steps r to
+opens_from set s limit carried from steps r to carried_is from_is leads =
+    subst (λ (c : Cut). Leads set s limit (known s) c steps r to) from_is (subst (λ (ns : List Node). Leads set s limit ns from steps r to) carried_is leads)
 
 -- inputs for all that is carried are unknown
 pub unknown_is : (s : Stream) (n : ℕ) (nodes : List Node) → nodes ≡ replicate n Input → n ≡ length (first_words s) → nodes ≡ unknown s

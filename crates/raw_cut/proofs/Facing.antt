@@ -1,7 +1,7 @@
 -- A run with terms from a cut, by what is found of it.
 use Rattle.std.proofs.Common.{◌≡◌, ℕ, ◌+◌, List, [], ◌++◌, length, map, take, drop, Some, sym, ap, ◌∙◌, subst}
 use Rattle.raw_grid.specs.Topology.{Topology, tile_count}
-use Rattle.raw_model.specs.Program.{ProgramSet, PortProgram}
+use Rattle.raw_model.specs.Program.{ProgramSet, PortProgram, IsSet}
 use Rattle.raw_model.specs.Rest.{IsQuiet}
 use Rattle.raw_flow.specs.declared.node.Node.{Node}
 use Rattle.raw_stream.specs.Streams.{Stream, valued}
@@ -14,11 +14,9 @@ use Rattle.raw_rows.specs.Kernels.{joined, Cut, renumbered, cut_with, open_nodes
 use Rattle.raw_rows.proofs.Along.{noting_none}
 use Rattle.raw_cut.specs.declared.leading.Begun.{Begun}
 use Rattle.raw_cut.specs.Kept.{IsKeptWith, IsKept}
-use Rattle.raw_cut.specs.Parts.{with_ports, ports_with, IsSameBut}
+use Rattle.raw_cut.specs.Parts.{with_ports, ports_with}
 use Rattle.raw_cut.specs.Seeing.{BeginsSeeing, ComesToRest}
 use Rattle.raw_cut.proofs.Rooms.{run_is, wide_kept, roomy_quiet}
-use Rattle.raw_cut.proofs.Same.{topo_same}
-use Rattle.raw_cut.proofs.Decided.{roomy_from}
 
 -- the set for a part of a run that sees these rows
 abbrev pub seeing : ProgramSet → Stream → ℕ → List (List ℕ) → ProgramSet
@@ -32,62 +30,63 @@ ArrivesAt set s carried at r rows to =
     Arrives set s (take r rows) (passed s carried at (take r rows)).values at.state
     (placed_cut (passed s carried at (take r rows)).nodes (passed s carried at (take r rows)).carried (drop r rows) to).state
 
-pub leads_from : (set seen : ProgramSet) (s : Stream) (limit : ℕ) (carried : List Node) (from : Cut) (steps : List ℕ) (r m : ℕ) (to : Cut) (b : Begun) (at : TermState) → m ≡ r + to.window
-    → BeginsSeeing set s limit carried from m seen b → along seen (state_of b.machine) steps ≡ Some at → ArrivesAt seen s carried at r (map (λ row. row.items) b.rows.items) to
+pub leads_from : (set : ProgramSet) (s : Stream) (limit : ℕ) (carried : List Node) (from : Cut) (steps : List ℕ) (r m : ℕ) (to : Cut) (b : Begun) (at : TermState) → m ≡ r + to.window
+    → BeginsSeeing set s limit carried from m b → along b.set (state_of b.machine) steps ≡ Some at → ArrivesAt b.set s carried at r (map (λ row. row.items) b.rows.items) to
     → Leads set s limit carried from steps r to
-leads_from set seen s limit carried from steps r m to b at many begins goes arrives =
+leads_from set s limit carried from steps r m to b at many begins goes arrives =
     let all : List (List ℕ) = open_rows s (r + to.window) in
-    let here : BeginsSeeing set s limit carried from (r + to.window) seen b = subst (λ (n : ℕ). BeginsSeeing set s limit carried from n seen b) many begins in
+    let here : BeginsSeeing set s limit carried from (r + to.window) b = subst (λ (n : ℕ). BeginsSeeing set s limit carried from n b) many begins in
     let there : ArrivesAt (run_set set s limit all) s carried at r all to =
-    subst (λ (g : ProgramSet). ArrivesAt g s carried at r all to) here.sees (subst (λ (ws : List (List ℕ)). ArrivesAt seen s carried at r ws to) here.rows arrives) in
+    subst (λ (g : ProgramSet). ArrivesAt g s carried at r all to) here.sees (subst (λ (ws : List (List ℕ)). ArrivesAt b.set s carried at r ws to) here.rows arrives) in
     record {
       at = at;
       goes = noting_none (run_set set s limit all) [] steps (begun s carried (r + to.window) from) at
-          (subst (λ (g : ProgramSet). along g (begun s carried (r + to.window) from) steps ≡ Some at) here.sees (subst (λ (t : TermState). along seen t steps ≡ Some at) here.state goes));
+          (subst (λ (g : ProgramSet). along g (begun s carried (r + to.window) from) steps ≡ Some at) here.sees (subst (λ (t : TermState). along b.set t steps ≡ Some at) here.state goes));
       arrives = record { locals = there.locals; wires = there.wires };
     }
 
 -- where the set with places more is quiet
-module _ (set seen roomy : ProgramSet) (s : Stream) (limit more : ℕ) (carried : List Node) (from : Cut) (m : ℕ) (b : Begun) (rows : List (List ℕ)) (begins : BeginsSeeing set s limit carried from m seen b)
-    (same : IsSameBut set seen) (more_is : more ≡ limit + 1) (rows_are : rows ≡ map (λ row. row.items) b.rows.items) (roomy_with : roomy ≡ with_ports seen more (ports_with seen.topo s (length seen.ports) rows 1)) where
+module _ (set roomy : ProgramSet) (s : Stream) (limit more : ℕ) (carried : List Node) (from : Cut) (m : ℕ) (b : Begun) (rows : List (List ℕ)) (begins : BeginsSeeing set s limit carried from m b)
+    (more_is : more ≡ limit + 1) (rows_are : rows ≡ map (λ row. row.items) b.rows.items) (roomy_with : roomy ≡ with_ports set more (ports_with set.topo s (length set.ports) rows 1)) (valid : IsSet roomy) where
   abbrev all : List (List ℕ)
   all = map (λ row. row.items) b.rows.items
 
-  seen_is : seen ≡ seeing set s limit all
+  seen_is : b.set ≡ seeing set s limit all
   seen_is = begins.sees ∙ ap (run_set set s limit) (sym begins.rows) ∙ sym (seeing_is set s limit all)
 
   roomy_is : roomy ≡ with_ports set (limit + 1) (ports_with set.topo s (length set.ports) all 1)
-  roomy_is = roomy_from set seen roomy s (limit + 1) 1 all same (roomy_with ∙ (λ i. with_ports seen (more_is i) (ports_with seen.topo s (length seen.ports) (rows_are i) 1)))
+  roomy_is = roomy_with ∙ (λ i. with_ports set (more_is i) (ports_with set.topo s (length set.ports) (rows_are i) 1))
 
-  pub kept_roomy : (at : Machine) → IsKeptWith seen 1 at → IsKept roomy at
-  kept_roomy at kept = subst (λ (g : ProgramSet). IsKept g at) (sym roomy_is) (wide_kept set s limit all at (subst (λ (g : ProgramSet). IsKeptWith g 1 at) seen_is kept))
+  pub kept_roomy : (at : Machine) → IsKeptWith b.set 1 at → IsKept roomy at
+  kept_roomy at kept = subst (λ (g : ProgramSet). IsKept g at) (sym roomy_is) (wide_kept set s limit all at (subst IsSet roomy_is valid) (subst (λ (g : ProgramSet). IsKeptWith g 1 at) seen_is kept))
 
-  pub rests_from : (steps : List ℕ) (at last : Machine) → along seen (state_of b.machine) steps ≡ Some (state_of at) → IsKeptWith seen 1 at → IsQuiet roomy (state_of at).state → state_of last ≡ state_of at
-      → ComesToRest set s limit carried from steps m (record b { machine = last })
-  rests_from steps at last goes kept quiet stays =
+  pub rests_from : (steps : List ℕ) (at : Machine) (last : Begun) → along b.set (state_of b.machine) steps ≡ Some (state_of at) → IsKeptWith b.set 1 at → IsQuiet roomy (state_of at).state → state_of last.machine ≡ state_of at
+      → last.set ≡ roomy → last.rows.items ≡ b.rows.items → last.widths.carried ≡ b.widths.carried → ComesToRest set s limit carried from steps m last
+  rests_from steps at last goes kept quiet stays set_is rows_stay widths_stay =
       let there : along (run_set set s limit (open_rows s m)) (begun s carried m from) steps ≡ Some (state_of at) =
-      subst (λ (g : ProgramSet). along g (begun s carried m from) steps ≡ Some (state_of at)) begins.sees (subst (λ (t : TermState). along seen t steps ≡ Some (state_of at)) begins.state goes) in
+      subst (λ (g : ProgramSet). along g (begun s carried m from) steps ≡ Some (state_of at)) begins.sees (subst (λ (t : TermState). along b.set t steps ≡ Some (state_of at)) begins.state goes) in
       let rest : IsQuiet (roomy_set set s limit (open_rows s m)) (state_of at).state =
       subst (λ (ws : List (List ℕ)). IsQuiet (roomy_set set s limit ws) (state_of at).state) begins.rows
       (roomy_quiet set s limit all at (subst (λ (g : ProgramSet). IsKept g at) roomy_is (kept_roomy at kept)) (subst (λ (g : ProgramSet). IsQuiet g (state_of at).state) roomy_is quiet)) in
       record {
-        rows = begins.rows;
+        rows = ap (map (λ row. row.items)) rows_stay ∙ begins.rows;
         goes = there ∙ ap (λ (t : TermState). Some t) (sym stays);
         quiet = subst (λ (t : TermState). IsQuiet (roomy_set set s limit (open_rows s m)) t.state) (sym stays) rest;
-        many = begins.many;
+        grid = ap (λ (g : ProgramSet). g.topo) (set_is ∙ roomy_is);
+        many = widths_stay ∙ begins.many;
       }
 
 -- and each sink has what is due
-pub rests_due : (set new : ProgramSet) → IsSameBut set new → (s : Stream) (limit : ℕ) (carried : List Node) (from : Cut) (steps lacks : List ℕ) (m : ℕ) (b : Begun) → ComesToRest set s limit carried from steps m b
-    → HasDue s (tile_count new.topo) (passed s carried (state_of b.machine) (map (λ row. row.items) b.rows.items)).values lacks (state_of b.machine).state → RestsSeeing set s limit carried from steps lacks m
-rests_due set new same s limit carried from steps lacks m b rests due =
+pub rests_due : (set : ProgramSet) (s : Stream) (limit : ℕ) (carried : List Node) (from : Cut) (steps lacks : List ℕ) (m : ℕ) (b : Begun) → ComesToRest set s limit carried from steps m b
+    → HasDue s (tile_count b.set.topo) (passed s carried (state_of b.machine) (map (λ row. row.items) b.rows.items)).values lacks (state_of b.machine).state → RestsSeeing set s limit carried from steps lacks m
+rests_due set s limit carried from steps lacks m b rests due =
     let at : TermState = state_of b.machine in
     record {
       at = at;
       goes = rests.goes;
       quiet = rests.quiet;
-      due = subst (λ (topo : Topology). HasDue s (tile_count topo) (passed s carried at (open_rows s m)).values lacks at.state) (topo_same set new same)
-          (subst (λ (ws : List (List ℕ)). HasDue s (tile_count new.topo) (passed s carried at ws).values lacks at.state) rests.rows due);
+      due = subst (λ (topo : Topology). HasDue s (tile_count topo) (passed s carried at (open_rows s m)).values lacks at.state) rests.grid
+          (subst (λ (ws : List (List ℕ)). HasDue s (tile_count b.set.topo) (passed s carried at ws).values lacks at.state) rests.rows due);
     }
 
 -- a run that begins at a cut

@@ -3,7 +3,6 @@ pub mod Seating
 pub mod Along
 pub mod Rooms
 pub mod Fits
-pub mod Same
 pub mod Inputs
 pub mod Starting
 pub mod Lists

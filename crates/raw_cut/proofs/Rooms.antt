@@ -9,7 +9,7 @@ use Rattle.raw_grid.specs.declared.parts.PortKind.TheVariants as kind
 use Rattle.raw_grid.specs.declared.parts.PortPlace.{PortPlace}
 use Rattle.raw_grid.specs.declared.parts.ProcKind.TheVariants as proc
 use Rattle.raw_grid.specs.Topology.{Topology, tile_count, kind_at}
-use Rattle.raw_model.specs.Program.{ProgramSet, PortProgram}
+use Rattle.raw_model.specs.Program.{ProgramSet, PortProgram, IsSet}
 use Rattle.raw_model.specs.Local.{Local, Source, Sink}
 use Rattle.raw_model.specs.Machine.{machine_of, takes, sends, words_of, capacity_of}
 use Rattle.raw_model.specs.Rest.{enabled, IsQuiet}
@@ -108,8 +108,9 @@ module _ (set_ : ProgramSet) (s : Stream) (limit : ℕ) (rows : List (List ℕ))
     room = omega (arith, is.room, room_less set_.topo s rows (range_with_len 0 (length set_.ports)) (p - 2 * tile_count set_.topo));
   }
 
-  pub wide_kept : (m : Machine) → IsKeptWith narrow 1 m → IsKept wide m
-  wide_kept m is = record {
+  pub wide_kept : (m : Machine) → IsSet wide → IsKeptWith narrow 1 m → IsKept wide m
+  wide_kept m valid is = record {
+    valid = valid;
     each = is.each;
     units = λ p x e. unit_kept p x (is.units p x e);
     each_end = is.each_end;

@@ -45,6 +45,7 @@ module _ (g : ProgramSet) (p : ℕ) (old new : Machine) (x y : Unit) (here : sli
 
     pub kept_then : IsKeptWith g spare new
     kept_then = record {
+      valid = stands.valid;
       each = ap length units ∙ length-set old.units.items p y ∙ stands.each;
       units = units_then;
       each_end = ap length ends ∙ stands.each_end;

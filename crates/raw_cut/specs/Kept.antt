@@ -3,7 +3,7 @@ use Rattle.std.specs.Prelude.{◌≡◌, ℕ, ◌+◌, ◌≤◌, true, false, S
 use Rattle.raw_grid.specs.declared.parts.ProcKind.TheVariants as proc
 use Rattle.raw_grid.specs.Topology.{proc_count, kind_at}
 use Rattle.raw_grid.specs.Wires.{wires_of}
-use Rattle.raw_model.specs.Program.{ProgramSet}
+use Rattle.raw_model.specs.Program.{ProgramSet, IsSet}
 use Rattle.raw_model.specs.Machine.{port_program, capacity_of}
 use Rattle.raw_model.specs.Rest.{enabled}
 use Rattle.raw_processor.specs.declared.end_wires.EndWires.{EndWires}
@@ -33,8 +33,9 @@ IsUnitWith set spare p (a.Sink port) = IsSinkWith set spare p port
 abbrev pub AreUnitsWith : ProgramSet → ℕ → List Unit → Type 0
 AreUnitsWith set spare units = (p : ℕ) (x : Unit) → slice_get units p ≡ Some x → IsUnitWith set spare p x
 
--- what each machine keeps
+-- what each machine keeps, of a set that keeps the rules
 pub record IsKeptWith (set : ProgramSet) (spare : ℕ) (m : Machine) : Type 0 where
+  pub valid : IsSet set
   pub each : length m.units.items ≡ proc_count set.topo
   pub units : AreUnitsWith set spare m.units.items
   pub each_end : length m.ends.items ≡ proc_count set.topo

@@ -49,11 +49,6 @@ pub record AreFit (set : ProgramSet) (limit : ℕ) (ports : List PortProgram) : 
 abbrev pub with_ports : ProgramSet → ℕ → List PortProgram → ProgramSet
 with_ports set limit ports = record set { limit = limit; ports = ports }
 
--- a set that is the other one but for its limit and its ports, of which it has as many
-pub record IsSameBut (old new : ProgramSet) : Type 0 where
-  pub same : new ≡ with_ports old new.limit new.ports
-  pub each : length new.ports ≡ length old.ports
-
 -- whether a node takes what is carried, as a number
 abbrev pub carried_by : RowNode → ℕ
 carried_by (Pre a word) = 1

@@ -2,10 +2,9 @@
 ghost use Rattle.std.specs.Prelude.{◌≡◌, ℕ, ◌<◌, ◌+◌, true, map, slice_index_or, [], IfOk, IfSome};
 ghost use Rattle.raw_rows.specs.Kernels.{IsLiveProof, Leads, IsSteady, RestsSeeing, start_cut, known, unknown};
 ghost use Rattle.raw_cut.specs.Cuts.{cut_of, proof_of};
-ghost use Rattle.raw_cut.specs.Parts.{IsSameBut};
 
 use crate::cut::Cut;
-use crate::fitting::see_rows;
+use crate::fitting::set_seeing;
 use crate::leading::{leads, rests};
 use crate::nodes::{are_nodes, known, open_inputs};
 use crate::proof::LiveProof;
@@ -17,39 +16,32 @@ use raw_stream::StreamFlow;
 use raw_term::TermRefusal;
 use std::alloc::{AllocError, Global};
 
-/// The start of a set, as a cut that sees no row. The set gets other ports and another limit.
-pub fn start_of(
-    alloc: Global,
-    set: &mut Set,
-    stream: &StreamFlow,
-) -> Result<Option<Cut>, AllocError>
-    ensures start { IfOk result (λ found. IfSome found (λ cut. cut_of cut ≡ start_cut set.old)) }
-    ensures same { IsSameBut set.old set.new }
+/// The start of a set, as a cut that sees no row.
+pub fn start_of(alloc: Global, set: &Set, stream: &StreamFlow) -> Result<Option<Cut>, AllocError>
+    ensures { IfOk result (λ found. IfSome found (λ cut. cut_of cut ≡ start_cut set.now)) }
 {
-    if !see_rows(alloc, set, stream, 1, &[], 0)? {
+    let Some(seen) = set_seeing(alloc, set, stream, 1, &[], 0)? else {
         return Ok(None);
-    }
-    match open(alloc, set) {
-        Ok(machine) => Ok(Some(cut_at(alloc, set, &machine, 0)?)),
+    };
+    match open(alloc, &seen) {
+        Ok(machine) => Ok(Some(cut_at(alloc, &seen, &machine, 0)?)),
         Err(TermRefusal::TooMany) => Ok(None),
         Err(TermRefusal::Memory) => Err(AllocError),
     }
 }
 
-/// Whether a list of steps leads from the start of a set to a cut, so many rows later. The set gets other ports and another
-/// limit.
+/// Whether a list of steps leads from the start of a set to a cut, so many rows later.
 pub fn opens(
     alloc: Global,
-    set: &mut Set,
+    set: &Set,
     stream: &StreamFlow,
     limit: u32,
     steps: &[u32],
     later: u32,
     to: &Cut,
 ) -> Result<bool, AllocError>
-    ensures opens { IfOk result (λ yes. yes ≡ true →
-        Leads set.old stream.now limit (known stream.now) (start_cut set.old) steps.now later (cut_of to.now)) }
-    ensures same { IsSameBut set.old set.new }
+    ensures { IfOk result (λ yes. yes ≡ true →
+        Leads set.now stream.now limit (known stream.now) (start_cut set.now) steps.now later (cut_of to.now)) }
 {
     let Some(start) = start_of(alloc, set, stream)? else {
         return Ok(false);
@@ -60,16 +52,15 @@ pub fn opens(
     )
 }
 
-/// Whether steps lead from the cut to itself. The set gets other ports and another limit.
+/// Whether steps lead from the cut to itself.
 pub(crate) fn is_steady(
     alloc: Global,
-    set: &mut Set,
+    set: &Set,
     stream: &StreamFlow,
     proof: &LiveProof,
 ) -> Result<bool, AllocError>
-    ensures steady { IfOk result (λ yes. yes ≡ true → IsSteady set.old stream.now proof.now.limit
+    ensures { IfOk result (λ yes. yes ≡ true → IsSteady set.now stream.now proof.now.limit
         (cut_of proof.now.cut) proof.now.kernel.items proof.now.rows) }
-    ensures same { IsSameBut set.old set.new }
 {
     let Some(widths) = widths_of(stream) else {
         return Ok(false);
@@ -91,14 +82,13 @@ pub(crate) fn is_steady(
 // Whether steps come to rest, for each number of rows below those of the kernel.
 fn all_rest(
     alloc: Global,
-    set: &mut Set,
+    set: &Set,
     stream: &StreamFlow,
     proof: &LiveProof,
 ) -> Result<bool, AllocError>
-    ensures rests { IfOk result (λ yes. yes ≡ true → (i : ℕ) → i < proof.now.rows →
-        RestsSeeing set.old stream.now proof.now.last_limit (unknown stream.now) (cut_of proof.now.cut)
+    ensures { IfOk result (λ yes. yes ≡ true → (i : ℕ) → i < proof.now.rows →
+        RestsSeeing set.now stream.now proof.now.last_limit (unknown stream.now) (cut_of proof.now.cut)
         (slice_index_or (map (λ steps. steps.items) proof.now.endings.items) i []) proof.now.lacks.items (proof.now.cut.window + i)) }
-    ensures same { IsSameBut set.old set.new }
 {
     if proof.endings.len() != proof.rows as usize {
         return Ok(false);
@@ -124,18 +114,17 @@ fn all_rest(
 }
 
 /// Whether this is a proof that a set meets a stream for every number of rows. It is found false also where a part of it
-/// needs more terms than a table holds, or rows of which there is no set. The set gets other ports and another limit.
+/// needs more terms than a table holds, or rows of which there is no set.
 ///
-/// Beside the machine and the table of terms, of which there is one at a time, the call takes memory for the terms of the
-/// rows that a part of the proof sees.
+/// Beside a copy of the set, the machine and the table of terms, of which there is one at a time, the call takes memory for
+/// the terms of the rows that a part of the proof sees.
 pub fn is_live_proof(
     alloc: Global,
-    set: &mut Set,
+    set: &Set,
     stream: &StreamFlow,
     proof: &LiveProof,
 ) -> Result<bool, AllocError>
-    ensures live { IfOk result (λ yes. yes ≡ true → IsLiveProof set.old stream.now (proof_of proof.now)) }
-    ensures same { IsSameBut set.old set.new }
+    ensures { IfOk result (λ yes. yes ≡ true → IsLiveProof set.now stream.now (proof_of proof.now)) }
 {
     if !are_nodes(&proof.cut.nodes) {
         return Ok(false);

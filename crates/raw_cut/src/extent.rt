@@ -182,18 +182,17 @@ fn is_enough(limit: u32, proof: &LiveProof, least: u32, room: u32, most: u32) ->
 
 /// For which numbers of rows a set is proved against a stream with the ports of the set: with any words, fed with so many
 /// rows, it comes to rest, and each sink has what it is due but for the last words. Words of the set are not looked at; its
-/// limit and the room of its sinks are. None where no proof is found, or one for no number of rows. The set gets other ports
-/// and another limit.
+/// limit and the room of its sinks are. None where no proof is found, or one for no number of rows.
 pub fn prove_live(
     alloc: Global,
-    set: &mut Set,
+    set: &Set,
     stream: &StreamFlow,
 ) -> Result<Option<Extent>, AllocError>
     requires named { AreNamed stream.now }
-    requires sources { length stream.now.sources ≤ length set.old.ports }
-    requires sinks { length stream.now.sinks ≤ length set.old.ports }
+    requires sources { length stream.now.sources ≤ length set.now.ports }
+    requires sinks { length stream.now.sinks ≤ length set.now.ports }
     ensures { IfOk result (λ found. IfSome found (λ extent.
-        IsMetFrom set.old stream.now extent.least extent.most extent.lacks.items)) }
+        IsMetFrom set.now stream.now extent.least extent.most extent.lacks.items)) }
 {
     let limit = set.limit;
     let Some(room) = rows_with_room(alloc, set, stream)? else {

@@ -1,9 +1,10 @@
 //! Sets with other ports.
 ghost use Rattle.std.specs.Prelude.{◌≡◌, ◌<◌, ◌≤◌, true, length, map, sum_by, IfOk, IfSome, All};
 ghost use Rattle.raw_model.specs.declared.limits.TheConstants.{MAX_ALL_WORDS, MAX_ALL_CAPACITIES};
-ghost use Rattle.raw_model.specs.Program.{PortProgram, IsPortProgram, IsOfKind, AreOfKinds, IsSet};
-ghost use Rattle.raw_cut.specs.Parts.{AreFit, with_ports, IsSameBut, ports_with};
+ghost use Rattle.raw_model.specs.Program.{PortProgram, IsPortProgram, IsOfKind, AreOfKinds};
+ghost use Rattle.raw_cut.specs.Parts.{AreFit, with_ports, ports_with};
 
+use crate::copying::copy_with;
 use crate::ports::ports_with;
 use raw_codegen::words_fit;
 use raw_grid::{PortKind, Topo};
@@ -87,15 +88,6 @@ fn are_fit(set: &Set, limit: u32, ports: &[PortProg]) -> bool
     has_little_room(ports)
 }
 
-/// Gives a set another limit and other ports.
-pub fn replace(set: &mut Set, limit: u32, ports: Vec<PortProg>)
-    requires { AreFit set.old limit ports.items }
-    ensures { set.new ≡ with_ports set.old limit ports.items }
-{
-    set.limit = limit;
-    set.ports = ports;
-}
-
 // The ports of a part of a run that sees these rows, where they may stand in the place of those of a set.
 fn fitting_ports(
     alloc: Global,
@@ -119,27 +111,22 @@ fn fitting_ports(
     Ok(Some(ports))
 }
 
-/// Makes of a set the one for a part of a run that sees these rows, in which no processor executes more than `limit`
-/// instructions, and each sink has some places more than it needs. Whether there is one; where there is none the set stays.
-pub(crate) fn see_rows(
+/// A set for a part of a run that sees these rows, in which no processor executes more than `limit` instructions, and each
+/// sink has some places more than it needs. None where there is no such set.
+pub(crate) fn set_seeing(
     alloc: Global,
-    set: &mut Set,
+    set: &Set,
     stream: &StreamFlow,
     limit: u32,
     rows: &[Vec<u32>],
     spare: u32,
-) -> Result<bool, AllocError>
-    requires few { spare < 2 }
-    ensures sees { IfOk result (λ sees. sees ≡ true → set.new ≡ with_ports set.old limit
-        (ports_with set.old.topo stream.now (length set.old.ports) (map (λ row. row.items) rows.now) spare)) }
-    ensures same { IsSameBut set.old set.new }
-    ensures valid { IfOk result (λ sees. sees ≡ true → IsSet set.new) }
+) -> Result<Option<Set>, AllocError>
+    requires { spare < 2 }
+    ensures { IfOk result (λ found. IfSome found (λ seen. seen ≡ with_ports set.now limit
+        (ports_with set.now.topo stream.now (length set.now.ports) (map (λ row. row.items) rows.now) spare))) }
 {
-    let Some(ports) = fitting_ports(alloc, set, stream, limit, rows, spare)? else {
-        return Ok(false);
-    };
-    replace(set, limit, ports);
-    // The set is read so that its rules are known.
-    let _limit = set.limit;
-    Ok(true)
+    match fitting_ports(alloc, set, stream, limit, rows, spare)? {
+        Some(ports) => copy_with(alloc, set, limit, ports),
+        None => Ok(None),
+    }
 }

@@ -9,13 +9,12 @@ ghost use Rattle.raw_rows.specs.Kernels.{open_rows, carried_in, begun, run_set, 
 ghost use Rattle.raw_prove.specs.Units.{state_of};
 ghost use Rattle.raw_cut.specs.Cuts.{cut_of};
 ghost use Rattle.raw_cut.specs.Kept.{IsKept, IsKeptWith};
-ghost use Rattle.raw_cut.specs.Parts.{IsSameBut};
 ghost use Rattle.raw_cut.specs.Seeing.{BeginsSeeing, ComesToRest};
 
 use crate::arriving::{are_units_at, are_wires_at};
 use crate::beginning::begin;
 use crate::cut::Cut;
-use crate::fitting::see_rows;
+use crate::fitting::set_seeing;
 use crate::nodes::{open_inputs, place_all};
 use crate::numbers::numbers_from;
 use crate::passing::{Passed, pass_rows};
@@ -83,19 +82,19 @@ pub(crate) fn begin_at(
     begin(alloc, set, table, &numbers, from)
 }
 
-/// A machine at a cut, with the numbers of the words of the rows that it sees, and their widths.
+/// A machine at a cut and the set that it runs, with the numbers of the words of the rows that it sees, and their widths.
 #[derive(Drop)]
 pub struct Begun {
+    pub set: Set,
     pub machine: Machine,
     pub rows: Vec<Vec<u32>>,
     pub widths: Widths,
 }
 
-/// The machine of a set that begins at a cut and sees so many rows. None where no such machine stands at it. The set gets
-/// other ports and another limit.
+/// The machine of a set that begins at a cut and sees so many rows. None where no such machine stands at it.
 pub fn begin_seeing(
     alloc: Global,
-    set: &mut Set,
+    set: &Set,
     stream: &StreamFlow,
     limit: u32,
     carried: &[Node],
@@ -103,10 +102,8 @@ pub fn begin_seeing(
     many: u32,
 ) -> Result<Option<Begun>, AllocError>
     ensures begins { IfOk result (λ found. IfSome found (
-        BeginsSeeing set.old stream.now limit carried.now (cut_of from.now) many set.new)) }
-    ensures kept { IfOk result (λ found. IfSome found (λ begun. IsKept set.new begun.machine)) }
-    ensures valid { IfOk result (λ found. IfSome found (λ begun. IsSet set.new)) }
-    ensures same { IsSameBut set.old set.new }
+        BeginsSeeing set.now stream.now limit carried.now (cut_of from.now) many)) }
+    ensures kept { IfOk result (λ found. IfSome found (λ begun. IsKept begun.set begun.machine)) }
 {
     let Some(widths) = widths_of(stream) else {
         return Ok(None);
@@ -115,11 +112,12 @@ pub fn begin_seeing(
         return Ok(None);
     };
     let rows = input_rows(alloc, 1 + widths.carried, widths.row, many)?;
-    if !see_rows(alloc, set, stream, limit, &rows, 0)? {
+    let Some(seen) = set_seeing(alloc, set, stream, limit, &rows, 0)? else {
         return Ok(None);
-    }
-    match begin_at(alloc, set, stream, widths, carried, from, &rows, count)? {
+    };
+    match begin_at(alloc, &seen, stream, widths, carried, from, &rows, count)? {
         Some(machine) => Ok(Some(Begun {
+            set: seen,
             machine,
             rows,
             widths,
@@ -183,10 +181,10 @@ pub fn arrives(
     are_wires_at(alloc, &machine.wires, &numbers, &to.wires)
 }
 
-/// Whether a list of steps leads from a cut to another, so many rows later. The set gets other ports and another limit.
+/// Whether a list of steps leads from a cut to another, so many rows later.
 pub(crate) fn leads(
     alloc: Global,
-    set: &mut Set,
+    set: &Set,
     stream: &StreamFlow,
     limit: u32,
     carried: &[Node],
@@ -195,9 +193,8 @@ pub(crate) fn leads(
     later: u32,
     to: &Cut,
 ) -> Result<bool, AllocError>
-    ensures leads { IfOk result (λ yes. yes ≡ true →
-        Leads set.old stream.now limit carried.now (cut_of from.now) steps.now later (cut_of to.now)) }
-    ensures same { IsSameBut set.old set.new }
+    ensures { IfOk result (λ yes. yes ≡ true →
+        Leads set.now stream.now limit carried.now (cut_of from.now) steps.now later (cut_of to.now)) }
 {
     let Some(many) = later.checked_add(to.window) else {
         return Ok(false);
@@ -206,23 +203,23 @@ pub(crate) fn leads(
         return Ok(false);
     };
     let Begun {
+        set: seen,
         mut machine,
         rows,
         widths,
     } = start;
-    if !go_along(set, &mut machine, steps)? {
+    if !go_along(&seen, &mut machine, steps)? {
         return Ok(false);
     }
     arrives(
-        alloc, set, stream, widths, carried, machine, &rows, later, to,
+        alloc, &seen, stream, widths, carried, machine, &rows, later, to,
     )
 }
 
-/// The machine with which a list of steps comes to rest from a cut that sees so many rows. None where it does not. The set
-/// gets other ports and another limit.
+/// The machine with which a list of steps comes to rest from a cut that sees so many rows. None where it does not.
 pub fn come_to_rest(
     alloc: Global,
-    set: &mut Set,
+    set: &Set,
     stream: &StreamFlow,
     limit: u32,
     carried: &[Node],
@@ -231,31 +228,34 @@ pub fn come_to_rest(
     many: u32,
 ) -> Result<Option<Begun>, AllocError>
     ensures rests { IfOk result (λ found. IfSome found (
-        ComesToRest set.old stream.now limit carried.now (cut_of from.now) steps.now many)) }
-    ensures kept { IfOk result (λ found. IfSome found (λ last. IsKept set.new last.machine)) }
-    ensures same { IsSameBut set.old set.new }
+        ComesToRest set.now stream.now limit carried.now (cut_of from.now) steps.now many)) }
+    ensures kept { IfOk result (λ found. IfSome found (λ last. IsKept last.set last.machine)) }
 {
     let Some(start) = begin_seeing(alloc, set, stream, limit, carried, from, many)? else {
         return Ok(None);
     };
     let Begun {
+        set: seen,
         mut machine,
         rows,
         widths,
     } = start;
-    if !go_along(set, &mut machine, steps)? {
+    if !go_along(&seen, &mut machine, steps)? {
         return Ok(None);
     }
     let Some(more) = limit.checked_add(1) else {
         return Ok(None);
     };
-    if !see_rows(alloc, set, stream, more, &rows, 1)? {
+    let Some(roomy) = set_seeing(alloc, set, stream, more, &rows, 1)? else {
         return Ok(None);
-    }
-    if !is_quiet(set, &mut machine)? {
+    };
+    // The set is read so that its rules are known.
+    let _limit = roomy.limit;
+    if !is_quiet(&roomy, &mut machine)? {
         return Ok(None);
     }
     Ok(Some(Begun {
+        set: roomy,
         machine,
         rows,
         widths,
@@ -295,10 +295,10 @@ pub fn has_all_due(
 }
 
 /// Whether a list of steps comes to rest from a cut that sees so many rows, with what is due of them but for the last
-/// words. The set gets other ports and another limit.
+/// words.
 pub(crate) fn rests(
     alloc: Global,
-    set: &mut Set,
+    set: &Set,
     stream: &StreamFlow,
     limit: u32,
     from: &Cut,
@@ -306,9 +306,8 @@ pub(crate) fn rests(
     lacks: &[u32],
     many: u32,
 ) -> Result<bool, AllocError>
-    ensures rests { IfOk result (λ yes. yes ≡ true →
-        RestsSeeing set.old stream.now limit (unknown stream.now) (cut_of from.now) steps.now lacks.now many) }
-    ensures same { IsSameBut set.old set.new }
+    ensures { IfOk result (λ yes. yes ≡ true →
+        RestsSeeing set.now stream.now limit (unknown stream.now) (cut_of from.now) steps.now lacks.now many) }
 {
     let Some(widths) = widths_of(stream) else {
         return Ok(false);
@@ -317,6 +316,13 @@ pub(crate) fn rests(
     let Some(last) = come_to_rest(alloc, set, stream, limit, &carried, from, steps, many)? else {
         return Ok(false);
     };
-    let Begun { machine, rows, .. } = last;
-    has_all_due(alloc, set, stream, widths, &carried, machine, &rows, lacks)
+    let Begun {
+        set: roomy,
+        machine,
+        rows,
+        ..
+    } = last;
+    has_all_due(
+        alloc, &roomy, stream, widths, &carried, machine, &rows, lacks,
+    )
 }

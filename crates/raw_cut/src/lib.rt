@@ -7,7 +7,7 @@
 //! For how many rows a set is proved at most (`raw_tests/src/cut.rt`):
 //!
 //! ```
-//! match prove_live(alloc, &mut set, &stream)? {
+//! match prove_live(alloc, &set, &stream)? {
 //!     Some(Extent { most, .. }) => Ok(Some(most)),
 //!     None => Ok(None),
 //! }
@@ -17,6 +17,7 @@
 mod arriving;
 mod beginning;
 mod control;
+mod copying;
 mod cut;
 mod deciding;
 mod extent;
@@ -40,7 +41,6 @@ pub use control::{Moment, moment_of, port_widths};
 pub use cut::{Cut, CutLocal, CutPort, CutTile};
 pub use deciding::{is_live_proof, opens, start_of};
 pub use extent::{Extent, prove_live};
-pub use fitting::replace;
 pub use leading::{Begun, arrives, begin_seeing, come_to_rest, has_all_due};
 pub use naming::{RowValues, cut_from};
 pub use nodes::{are_nodes, carried_out, known, open_inputs, place_all};

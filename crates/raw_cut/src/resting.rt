@@ -19,8 +19,7 @@ use std::alloc::{AllocError, Global};
 
 /// Whether no processor of a machine is enabled. Where one is, the machine is not used again.
 pub(crate) fn is_quiet(set: &Set, machine: &mut Machine) -> Result<bool, AllocError>
-    requires valid { IsSet set.now }
-    requires kept { IsKept set.now machine.old }
+    requires { IsKept set.now machine.old }
     ensures quiet { IfOk result (λ yes. yes ≡ true → IsQuiet set.now (state_of machine.old).state) }
     ensures stays { IfOk result (λ yes. yes ≡ true → state_of machine.new ≡ state_of machine.old) }
     ensures kept { IfOk result (λ yes. yes ≡ true → IsKept set.now machine.new) }

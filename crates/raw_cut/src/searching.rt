@@ -3,7 +3,6 @@ ghost use Rattle.std.specs.Prelude.{◌≡◌, length, IfOk, IfSome};
 ghost use Rattle.raw_grid.specs.Wires.{wires_of};
 ghost use Rattle.raw_model.specs.Program.{IsSet};
 ghost use Rattle.raw_cut.specs.Kept.{IsKept};
-ghost use Rattle.raw_cut.specs.Parts.{IsSameBut};
 
 use crate::control::{Moment, moment_of, port_widths};
 use crate::cut::Cut;
@@ -152,8 +151,7 @@ impl Search {
         stream: &StreamFlow,
         mut machine: Machine,
     ) -> Result<(), AllocError>
-        requires valid { IsSet set.now }
-        requires kept { IsKept set.now machine }
+        requires { IsKept set.now machine }
     {
         for count in 1..MOST_SWEEPS {
             match sweep(set, &mut machine, &mut self.steps)? {
@@ -190,13 +188,11 @@ pub fn values_of(
 #[tactic(auto, using(crate::proofs::Decided::kept_with_table))]
 fn proofs_in(
     alloc: Global,
-    set: &mut Set,
+    set: &Set,
     stream: &StreamFlow,
     limit: u32,
     many: u32,
-) -> Result<Vec<LiveProof>, AllocError>
-    ensures { IsSameBut set.old set.new }
-{
+) -> Result<Vec<LiveProof>, AllocError> {
     let nodes = known(alloc, &stream.nodes)?;
     let Some(start) = start_of(alloc, set, stream)? else {
         return Ok(Vec::new(alloc));
@@ -204,6 +200,7 @@ fn proofs_in(
     let begins = begin_seeing(alloc, set, stream, limit, &nodes, &start, many)?;
     let Some(
         Begun {
+            set: seen,
             mut machine,
             rows,
             ..
@@ -217,13 +214,13 @@ fn proofs_in(
     };
     let mut search = Search {
         run,
-        widths: port_widths(alloc, set, stream)?,
+        widths: port_widths(alloc, &seen, stream)?,
         steps: Vec::new(alloc),
-        last: moment_of(alloc, set, &machine, 0, true)?,
+        last: moment_of(alloc, &seen, &machine, 0, true)?,
         times: 0,
         found: Vec::new(alloc),
     };
-    search.recur(alloc, set, stream, machine)?;
+    search.recur(alloc, &seen, stream, machine)?;
     let Search { found, .. } = search;
     Ok(found)
 }
@@ -268,24 +265,29 @@ fn raise(lacks: &mut Vec<u32>, others: &[u32]) -> Result<(), AllocError> {
 // Runs from the cut of a proof to rest that sees so many rows, and notes the steps. Whether it comes to rest.
 fn add_ending(
     alloc: Global,
-    set: &mut Set,
+    set: &Set,
     stream: &StreamFlow,
     limit: u32,
     many: u32,
     proof: &mut LiveProof,
-) -> Result<bool, AllocError>
-    ensures { IsSameBut set.old set.new }
-{
+) -> Result<bool, AllocError> {
     let Some(widths) = widths_of(stream) else {
         return Ok(false);
     };
     let carried = open_inputs(alloc, widths.carried)?;
     let begins = begin_seeing(alloc, set, stream, limit, &carried, &proof.cut, many)?;
-    let Some(Begun { mut machine, .. }) = begins else {
+    let Some(
+        Begun {
+            set: seen,
+            mut machine,
+            ..
+        },
+    ) = begins
+    else {
         return Ok(false);
     };
     let mut steps = Vec::new(alloc);
-    if !run_to_rest(set, &mut machine, &mut steps)? {
+    if !run_to_rest(&seen, &mut machine, &mut steps)? {
         return Ok(false);
     }
     let units = 2 * set.topo.tiles() as usize;
@@ -301,13 +303,11 @@ fn add_ending(
 // Notes how the cut of a proof comes to rest, for each number of rows below those of its kernel. Whether it always does.
 fn add_endings(
     alloc: Global,
-    set: &mut Set,
+    set: &Set,
     stream: &StreamFlow,
     limit: u32,
     proof: &mut LiveProof,
-) -> Result<bool, AllocError>
-    ensures { IsSameBut set.old set.new }
-{
+) -> Result<bool, AllocError> {
     for i in 0..proof.rows {
         let many = proof.cut.window.saturating_add(i);
         if !add_ending(alloc, set, stream, limit, many, proof)? {
@@ -320,13 +320,11 @@ fn add_endings(
 // The first of these proofs whose kernel is steady and whose cut comes to rest.
 fn first_steady(
     alloc: Global,
-    set: &mut Set,
+    set: &Set,
     stream: &StreamFlow,
     limit: u32,
     proofs: Vec<LiveProof>,
-) -> Result<Option<LiveProof>, AllocError>
-    ensures { IsSameBut set.old set.new }
-{
+) -> Result<Option<LiveProof>, AllocError> {
     for mut proof in proofs {
         if is_steady(alloc, set, stream, &proof)?
             && add_endings(alloc, set, stream, limit, &mut proof)?
@@ -338,16 +336,13 @@ fn first_steady(
 }
 
 /// Looks for a proof that a set whose processors execute at most so many instructions meets a stream for every number of
-/// rows. None where the search finds none. Nothing is said of what is found: `is_live_proof` checks it. The set gets other
-/// ports and another limit.
+/// rows. None where the search finds none. Nothing is said of what is found: `is_live_proof` checks it.
 pub fn find_live_proof(
     alloc: Global,
-    set: &mut Set,
+    set: &Set,
     stream: &StreamFlow,
     limit: u32,
-) -> Result<Option<LiveProof>, AllocError>
-    ensures { IsSameBut set.old set.new }
-{
+) -> Result<Option<LiveProof>, AllocError> {
     for many in ROWS {
         let proofs = proofs_in(alloc, set, stream, limit, many)?;
         if let Some(proof) = first_steady(alloc, set, stream, limit, proofs)? {

@@ -2,58 +2,21 @@
 ghost use Rattle.std.specs.Prelude.{◌≡◌, ℕ, ◌<◌, true, Some, List, length, IfOk};
 ghost use Rattle.raw_grid.specs.declared.parts.ProcKind.TheVariants as proc;
 ghost use Rattle.raw_grid.specs.Topology.{proc_count, kind_at};
-ghost use Rattle.raw_model.specs.Program.{IsSet};
-ghost use Rattle.raw_model.specs.Local.{Tile, Switch, Source, Sink};
+ghost use Rattle.raw_model.specs.Local.{Source, Sink};
 ghost use Rattle.raw_serial.specs.Standing.{EndsStand};
 ghost use Rattle.raw_flow.specs.declared.node.Node.{Node};
-ghost use Rattle.raw_prove.specs.Units.{local_of, state_of, IsTile, IsSwitch};
+ghost use Rattle.raw_prove.specs.Units.{local_of, state_of};
 ghost use Rattle.raw_prove.specs.Turns.{IsTurn};
 ghost use Rattle.raw_rows.specs.Kernels.{along};
 ghost use Rattle.raw_cut.specs.Kept.{IsSinkWith, IsUnitWith, IsKeptWith, IsKept, IsTurnAt};
 
 use raw_grid::ProcId;
 use raw_model::Set;
-use raw_processor::{EndWires, PortState, SwitchUnit};
-use raw_prove::{Machine, SourceUnit, TileUnit, Turn, Unit, turn_switch, turn_tile};
+use raw_processor::{EndWires, PortState};
+use raw_prove::{Machine, SourceUnit, Turn, Unit, turn_switch, turn_tile};
 use raw_serial::{Silent, Turn as SerialTurn, Wires, turn_sink, turn_source};
 use raw_term::TermTable;
 use std::alloc::AllocError;
-
-// Gives a tile its turn.
-fn turn_tile_unit(
-    set: &Set,
-    p: ProcId,
-    ends: &EndWires,
-    unit: &mut TileUnit,
-    wires: &mut Wires,
-    table: &mut TermTable,
-) -> Result<Turn, AllocError>
-    requires stands { EndsStand set.now p.0 ends.now wires.old }
-    requires unit { IsTile set.now p.0 unit.old }
-    ensures turn { IfOk result (λ turn.
-        IsTurn set.now p.0 table.old (Tile unit.old.tile) wires.old turn table.new (Tile unit.new.tile) wires.new) }
-    ensures kept { IsTile set.now p.0 unit.new }
-{
-    turn_tile(set, p, ends, unit, wires, table)
-}
-
-// Gives a switch its turn.
-fn turn_switch_unit(
-    set: &Set,
-    p: ProcId,
-    ends: &EndWires,
-    unit: &mut SwitchUnit,
-    wires: &mut Wires,
-    table: &mut TermTable,
-) -> Result<Turn, AllocError>
-    requires stands { EndsStand set.now p.0 ends.now wires.old }
-    requires unit { IsSwitch set.now p.0 unit.old }
-    ensures turn { IfOk result (λ turn.
-        IsTurn set.now p.0 table.old (Switch unit.old.state) wires.old turn table.new (Switch unit.new.state) wires.new) }
-    ensures kept { IsSwitch set.now p.0 unit.new }
-{
-    turn_switch(set, p, ends, unit, wires, table)
-}
 
 // Gives a source its turn.
 fn turn_source_unit(
@@ -110,8 +73,8 @@ fn turn_unit(
     ensures kept { (spare : ℕ) → IsUnitWith set.now spare p.0 unit.old → IsUnitWith set.now spare p.0 unit.new }
 {
     match unit {
-        Unit::Tile(tile) => turn_tile_unit(set, p, ends, tile, wires, table),
-        Unit::Switch(switch) => turn_switch_unit(set, p, ends, switch, wires, table),
+        Unit::Tile(tile) => turn_tile(set, p, ends, tile, wires, table),
+        Unit::Switch(switch) => turn_switch(set, p, ends, switch, wires, table),
         Unit::Source(source) => Ok(turn_source_unit(set, p, ends, source, wires)),
         Unit::Sink(port) => Ok(turn_sink_unit(set, p, ends, port, wires)),
     }
@@ -119,7 +82,6 @@ fn turn_unit(
 
 /// Gives a processor its turn. After one that hangs, or needs too many terms, the machine is not used again.
 pub fn turn(set: &Set, machine: &mut Machine, p: ProcId) -> Result<Turn, AllocError>
-    requires valid { IsSet set.now }
     requires kept { IsKept set.now machine.old }
     requires proc { p.0 < proc_count set.now.topo }
     ensures { IfOk result (λ turn. IsTurnAt set.now p.0 machine.old turn machine.new) }
@@ -133,8 +95,7 @@ pub fn turn(set: &Set, machine: &mut Machine, p: ProcId) -> Result<Turn, AllocEr
 /// Goes along a list of steps, each a processor's. It does not where one of them is not enabled, hangs, or needs too many
 /// terms; then the machine is not used again.
 pub fn go_along(set: &Set, machine: &mut Machine, steps: &[u32]) -> Result<bool, AllocError>
-    requires valid { IsSet set.now }
-    requires kept { IsKept set.now machine.old }
+    requires { IsKept set.now machine.old }
     ensures goes { IfOk result (λ goes. goes ≡ true →
         along set.now (state_of machine.old) steps.now ≡ Some (state_of machine.new)) }
     ensures kept { IfOk result (λ goes. goes ≡ true →

@@ -20,7 +20,6 @@ fn step(
     p: u32,
     steps: &mut Vec<u32>,
 ) -> Result<Option<bool>, AllocError>
-    requires valid { IsSet set.now }
     requires kept { IsKept set.now machine.old }
     requires proc { p < proc_count set.now.topo }
     ensures { IfOk result (λ found. IfSome found (λ moved. IsKept set.now machine.new)) }
@@ -41,8 +40,7 @@ pub fn sweep(
     machine: &mut Machine,
     steps: &mut Vec<u32>,
 ) -> Result<Option<bool>, AllocError>
-    requires valid { IsSet set.now }
-    requires kept { IsKept set.now machine.old }
+    requires { IsKept set.now machine.old }
     ensures { IfOk result (λ found. IfSome found (λ moved. IsKept set.now machine.new)) }
 {
     let mut moved = false;
@@ -61,8 +59,7 @@ pub fn run_to_rest(
     machine: &mut Machine,
     steps: &mut Vec<u32>,
 ) -> Result<bool, AllocError>
-    requires valid { IsSet set.now }
-    requires kept { IsKept set.now machine.old }
+    requires { IsKept set.now machine.old }
     ensures { IfOk result (λ rests. rests ≡ true → IsKept set.now machine.new) }
 {
     for _sweep in 0..MOST_SWEEPS {

@@ -1,66 +1,13 @@
--- The parts of a proof for all rows, each found of a set that got other ports and another limit before.
-use Rattle.std.proofs.Common.{◌≡◌, ℕ, ◌+◌, ◌++◌, List, [], length, map, Some, ap, ap₂, ◌∙◌, subst}
+-- The parts of a proof for all rows.
+use Rattle.std.proofs.Common.{◌≡◌, ℕ, ◌+◌, ◌++◌, List, length, map, ap₂, ◌∙◌, subst}
 use Rattle.std.specs.Prelude.{replicate, slice_index}
-use Rattle.std.specs.List.{range_with_len}
-use Rattle.raw_grid.specs.Topology.{Topology, tile_count}
 use Rattle.raw_model.specs.Program.{ProgramSet}
-use Rattle.raw_model.specs.Rest.{IsQuiet}
 use Rattle.raw_flow.specs.declared.node.Node.{Node}
 use Rattle.raw_flow.specs.declared.node.Node.TheVariants.{Input, Const}
 use Rattle.raw_stream.specs.Streams.{Stream, first_words}
-use Rattle.raw_term.specs.TermMachine.{TermState}
-use Rattle.raw_rows.specs.Kernels.{Cut, open_rows, begun, along, roomy_port, roomy_set, passed, Leads, HasDue, known, start_cut, unknown}
-use Rattle.raw_rows.specs.Lengths.{LengthProof, with_counters, counting, counted, counters_at, looked, kernel_start, with_looks, IsSteadyNoting, last_carried, EndsDone, IsLengthProof}
-use Rattle.raw_cut.specs.Parts.{IsSameBut}
-use Rattle.raw_cut.proofs.Same.{topo_same, run_same, start_same, noting_same, leads_same}
+use Rattle.raw_rows.specs.Lengths.{LengthProof, with_counters, counting, counted, counters_at, looked, kernel_start, IsSteadyNoting, last_carried, EndsDone}
 use Rattle.raw_lengths.specs.Looks.{IsPlaced}
 use Rattle.raw_lengths.specs.Proofs.{IsSteadySeen, EndsSeeing, AreCounted}
-
--- with other ports, and another limit, it is the same
-roomy_same : (old new : ProgramSet) → IsSameBut old new → (s : Stream) (limit : ℕ) (rows : List (List ℕ)) → roomy_set new s limit rows ≡ roomy_set old s limit rows
-roomy_same old new is s limit rows =
-    ap (λ (g : ProgramSet). record g { limit = limit + 1; ports = map (roomy_port s rows) (range_with_len 0 (length new.ports)) }) is.same
-    ∙ ap (λ (n : ℕ). record old { limit = limit + 1; ports = map (roomy_port s rows) (range_with_len 0 n) }) is.each
-
-pub ends_same : (old new : ProgramSet) → IsSameBut old new → (s : Stream) (limit : ℕ) (carried : List Node) (from : Cut) (steps : List ℕ) (m : ℕ)
-    → EndsSeeing new s limit carried from steps m → EndsSeeing old s limit carried from steps m
-ends_same old new is s limit carried from steps m h =
-    let at : TermState = h.rests.at in
-    record {
-      rests = record {
-        at = at;
-        goes = subst (λ (g : ProgramSet). along g (begun s carried m from) steps ≡ Some at) (run_same old new is s limit (open_rows s m)) h.rests.goes;
-        quiet = subst (λ (g : ProgramSet). IsQuiet g at.state) (roomy_same old new is s limit (open_rows s m)) h.rests.quiet;
-        due = subst (λ (topo : Topology). HasDue s (tile_count topo) (passed s carried at (open_rows s m)).values [] at.state) (topo_same old new is) h.rests.due;
-      };
-      halted = h.halted;
-    }
-
-pub steady_same : (old new : ProgramSet) → IsSameBut old new → (s : Stream) (w : LengthProof) → IsSteadyNoting new s w → IsSteadyNoting old s w
-steady_same old new is s w h = record {
-  terms = h.terms;
-  leads = noting_same old new is (with_counters s w.counters) w.limit (unknown (with_counters s w.counters)) (with_looks s w (kernel_start s w)) w.kernel w.rows w.cut (w.rows + w.cut.window) h.terms h.leads;
-  counted = h.counted;
-}
-
-pub done_same : (old new : ProgramSet) → IsSameBut old new → (s : Stream) (w : LengthProof) → EndsDone new s w → EndsDone old s w
-done_same old new is s w h =
-    let there : EndsSeeing old (with_counters s w.counters) w.last_limit (last_carried s w) w.cut w.ending w.last_rows =
-    ends_same old new is (with_counters s w.counters) w.last_limit (last_carried s w) w.cut w.ending w.last_rows (record { rests = h.rests; halted = h.halted }) in
-    record { rests = there.rests; halted = there.halted }
-
-pub proof_same : (old new : ProgramSet) → IsSameBut old new → (s : Stream) (w : LengthProof) → IsLengthProof new s w → IsLengthProof old s w
-proof_same old new is s w h = record {
-  counters = h.counters;
-  constants = h.constants;
-  looks = h.looks;
-  count = h.count;
-  window = h.window;
-  opens = subst (λ (from : Cut). Leads old (with_counters s w.counters) w.first_limit (known (with_counters s w.counters)) from w.opening w.first_rows w.cut) (start_same old new is)
-      (leads_same old new is (with_counters s w.counters) w.first_limit (known (with_counters s w.counters)) (start_cut new) w.opening w.first_rows w.cut h.opens);
-  steady = steady_same old new is s w h.steady;
-  ends = done_same old new is s w h.ends;
-}
 
 module _ (set : ProgramSet) (s extended : Stream) (w : LengthProof) (places : List ℕ) (extended_is : extended ≡ with_counters s w.counters) where
   -- the kernels

@@ -16,25 +16,25 @@ use Rattle.raw_cut.proofs.Facing.{ArrivesAt}
 use Rattle.raw_lengths.specs.Looks.{ArePlaces}
 use Rattle.raw_lengths.specs.Proofs.{start_at, looks_at, start_with, IsSteadySeen}
 
-pub steady_from : (set seen : ProgramSet) (s : Stream) (limit : ℕ) (cut : Cut) (steps : List ℕ) (r own many : ℕ) (looks : List Node) (places : List ℕ) (b : Begun)
+pub steady_from : (set : ProgramSet) (s : Stream) (limit : ℕ) (cut : Cut) (steps : List ℕ) (r own many : ℕ) (looks : List Node) (places : List ℕ) (b : Begun)
     (ins : List ℕ) (table : List Node) (numbers terms : List ℕ) (at : TermState)
-    → BeginsSeeing set s limit (unknown s) cut (r + cut.window) seen b → ins ≡ range_with_len (1 + own) many
+    → BeginsSeeing set s limit (unknown s) cut (r + cut.window) b → ins ≡ range_with_len (1 + own) many
     → placed (state_of b.machine).nodes ins looks ≡ record { nodes = table; numbers = numbers }
-    → along_noting seen (noted_at (record { nodes = table; state = (state_of b.machine).state }) []) steps ≡ Some (noted_at at terms)
-    → ArePlaces numbers places terms → ArrivesAt seen s (unknown s) at r (map (λ row. row.items) b.rows.items) cut → IsSteadySeen set s limit cut steps r own many looks places
-steady_from set seen s limit cut steps r own many looks places b ins table numbers terms at begins ins_are placed_is goes places_are arrives =
+    → along_noting b.set (noted_at (record { nodes = table; state = (state_of b.machine).state }) []) steps ≡ Some (noted_at at terms)
+    → ArePlaces numbers places terms → ArrivesAt b.set s (unknown s) at r (map (λ row. row.items) b.rows.items) cut → IsSteadySeen set s limit cut steps r own many looks places
+steady_from set s limit cut steps r own many looks places b ins table numbers terms at begins ins_are placed_is goes places_are arrives =
     let all : List (List ℕ) = open_rows s (r + cut.window) in
     let terms_are : looks_at own many looks (start_at s cut r).nodes ≡ record { nodes = table; numbers = numbers } =
     ap₂ (λ (t : TermState) (xs : List ℕ). placed t.nodes xs looks) (sym begins.state) (sym ins_are) ∙ placed_is in
     let from : record { nodes = table; state = (state_of b.machine).state } ≡ start_with s cut r own many looks = λ i. record { nodes = ((sym terms_are) i).nodes; state = (begins.state i).state } in
     let there : ArrivesAt (run_set set s limit all) s (unknown s) at r all cut =
-    subst (λ (g : ProgramSet). ArrivesAt g s (unknown s) at r all cut) begins.sees (subst (λ (ws : List (List ℕ)). ArrivesAt seen s (unknown s) at r ws cut) begins.rows arrives) in
+    subst (λ (g : ProgramSet). ArrivesAt g s (unknown s) at r all cut) begins.sees (subst (λ (ws : List (List ℕ)). ArrivesAt b.set s (unknown s) at r ws cut) begins.rows arrives) in
     record {
       terms = terms;
       leads = record {
         at = at;
         goes = subst (λ (g : ProgramSet). along_noting g (noted_at (start_with s cut r own many looks) []) steps ≡ Some (noted_at at terms)) begins.sees
-            (subst (λ (t : TermState). along_noting seen (noted_at t []) steps ≡ Some (noted_at at terms)) from goes);
+            (subst (λ (t : TermState). along_noting b.set (noted_at t []) steps ≡ Some (noted_at at terms)) from goes);
         arrives = record { locals = there.locals; wires = there.wires };
       };
       placed = subst (λ (k : ClaimTerms). ArePlaces k.numbers places terms) (sym terms_are) places_are;

@@ -1,7 +1,6 @@
 //! Runs with terms from a cut to the end.
 ghost use Rattle.std.specs.Prelude.{◌≡◌, [], true, IfOk};
 ghost use Rattle.raw_cut.specs.Cuts.{cut_of};
-ghost use Rattle.raw_cut.specs.Parts.{IsSameBut};
 ghost use Rattle.raw_lengths.specs.Proofs.{EndsSeeing};
 
 use crate::halting::are_halted;
@@ -12,10 +11,10 @@ use raw_stream::StreamFlow;
 use std::alloc::{AllocError, Global};
 
 /// Whether a list of steps comes to rest from a cut that sees so many rows, with all that is due of them, and each tile and
-/// switch halted. The set gets other ports and another limit.
+/// switch halted.
 pub(crate) fn ends(
     alloc: Global,
-    set: &mut Set,
+    set: &Set,
     stream: &StreamFlow,
     limit: u32,
     carried: &[Node],
@@ -23,14 +22,14 @@ pub(crate) fn ends(
     steps: &[u32],
     many: u32,
 ) -> Result<bool, AllocError>
-    ensures ends { IfOk result (λ yes. yes ≡ true →
-        EndsSeeing set.old stream.now limit carried.now (cut_of from.now) steps.now many) }
-    ensures same { IsSameBut set.old set.new }
+    ensures { IfOk result (λ yes. yes ≡ true →
+        EndsSeeing set.now stream.now limit carried.now (cut_of from.now) steps.now many) }
 {
     let Some(last) = come_to_rest(alloc, set, stream, limit, carried, from, steps, many)? else {
         return Ok(false);
     };
     let Begun {
+        set: roomy,
         machine,
         rows,
         widths,
@@ -38,5 +37,5 @@ pub(crate) fn ends(
     if !are_halted(&machine.units) {
         return Ok(false);
     }
-    has_all_due(alloc, set, stream, widths, carried, machine, &rows, &[])
+    has_all_due(alloc, &roomy, stream, widths, carried, machine, &rows, &[])
 }

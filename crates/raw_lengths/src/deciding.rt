@@ -6,7 +6,6 @@ ghost use Rattle.raw_flow.specs.Flows.{AreNodes};
 ghost use Rattle.raw_stream.specs.Streams.{Stream, IsRowNode, AreRowNodes, plain, first_of, first_words};
 ghost use Rattle.raw_rows.specs.Lengths.{with_counters, IsLengthProof, IsSteadyNoting, EndsDone, counted};
 ghost use Rattle.raw_cut.specs.Cuts.{cut_of};
-ghost use Rattle.raw_cut.specs.Parts.{IsSameBut};
 ghost use Rattle.raw_lengths.specs.Proofs.{proof_of, AreCounted};
 
 use crate::closing::ends;
@@ -152,15 +151,14 @@ fn counts_of(stream: &StreamFlow, counters: &[RowNode]) -> Option<Counts>
 // Whether the kernels and the end of a proof are as they should be.
 fn passes_on(
     alloc: Global,
-    set: &mut Set,
+    set: &Set,
     stream: &StreamFlow,
     extended: &StreamFlow,
     proof: &LengthProof,
 ) -> Result<bool, AllocError>
     requires extended { extended.now ≡ with_counters stream.now proof.now.counters.items }
-    ensures parts { IfOk result (λ yes. yes ≡ true →
-        IsSteadyNoting set.old stream.now (proof_of proof.now) × EndsDone set.old stream.now (proof_of proof.now)) }
-    ensures same { IsSameBut set.old set.new }
+    ensures { IfOk result (λ yes. yes ≡ true →
+        IsSteadyNoting set.now stream.now (proof_of proof.now) × EndsDone set.now stream.now (proof_of proof.now)) }
 {
     let Some(counts) = counts_of(stream, &proof.counters) else {
         return Ok(false);
@@ -197,18 +195,17 @@ fn passes_on(
 }
 
 /// Whether this is a proof that a set computes all rows of a stream. It is found false also where a part of it needs more
-/// terms than a table holds, or rows of which there is no set. The set gets other ports and another limit.
+/// terms than a table holds, or rows of which there is no set.
 ///
-/// Beside the machine and the table of terms, of which there is one at a time, the call takes memory for the terms of the
-/// rows that a part of the proof sees.
+/// Beside a copy of the set, the machine and the table of terms, of which there is one at a time, the call takes memory for
+/// the terms of the rows that a part of the proof sees.
 pub fn is_length_proof(
     alloc: Global,
-    set: &mut Set,
+    set: &Set,
     stream: &StreamFlow,
     proof: &LengthProof,
 ) -> Result<bool, AllocError>
-    ensures proof { IfOk result (λ yes. yes ≡ true → IsLengthProof set.old stream.now (proof_of proof.now)) }
-    ensures same { IsSameBut set.old set.new }
+    ensures { IfOk result (λ yes. yes ≡ true → IsLengthProof set.now stream.now (proof_of proof.now)) }
 {
     if !are_counters(&proof.counters) {
         return Ok(false);

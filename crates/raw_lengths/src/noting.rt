@@ -4,7 +4,6 @@ ghost use Rattle.raw_grid.specs.Topology.{proc_count};
 ghost use Rattle.raw_tile_isa.specs.Instruction.{is_network};
 ghost use Rattle.raw_model.specs.Program.{IsSet};
 ghost use Rattle.raw_model.specs.Local.{Tile, Switch};
-ghost use Rattle.raw_model.specs.Machine.{is_stopped, switch_code};
 ghost use Rattle.raw_model.specs.TileTable.{next_instruction, following, moved};
 ghost use Rattle.raw_model.specs.SwitchTable.{next_instruction as next_switch_instruction};
 ghost use Rattle.raw_term.specs.Terms.{word_in};
@@ -181,33 +180,6 @@ fn take_branch(
     Ok(term)
 }
 
-// Takes a switch's branch on a term, with its routes, where it has all that it needs.
-fn step_switch(
-    set: &Set,
-    p: ProcId,
-    ends: &EndWires,
-    unit: &mut SwitchUnit,
-    wires: &mut Wires,
-    table: &mut TermTable,
-) -> Result<Look, AllocError>
-    requires stands { EndsStand set.now p.0 ends.now wires.old }
-    requires unit { IsSwitch set.now p.0 unit.old }
-    requires going { is_stopped set.now p.0 (Switch unit.old.state) ≡ false }
-    requires look { IsLookAt table.old unit.old.state (next_switch_instruction (switch_code set.now p.0) unit.old.state) }
-    ensures look { IfOk result (λ look.
-        IsLook set.now p.0 table.old (Switch unit.old.state) wires.old look table.new (Switch unit.new.state) wires.new) }
-    ensures kept { IsSwitch set.now p.0 unit.new }
-{
-    let Some(_given) = route_switch(set, p, ends, unit, wires) else {
-        return Ok(Look::Other);
-    };
-    match take_branch(switch_program(set, p), &mut unit.state, table) {
-        Ok(term) => Ok(Look::Noted(term)),
-        Err(TermRefusal::TooMany) => Ok(Look::TooMany),
-        Err(TermRefusal::Memory) => Err(AllocError),
-    }
-}
-
 // Takes a switch's branch on a term, if it is at one and may.
 fn note_switch(
     set: &Set,
@@ -226,10 +198,18 @@ fn note_switch(
     if switch_stopped(&unit.state, set.limit) {
         return Ok(Look::Other);
     }
-    if !is_look(switch_program(set, p), &unit.state, table) {
+    let program = switch_program(set, p);
+    if !is_look(program, &unit.state, table) {
         return Ok(Look::Other);
     }
-    step_switch(set, p, ends, unit, wires, table)
+    let Some(_given) = route_switch(set, p, ends, unit, wires) else {
+        return Ok(Look::Other);
+    };
+    match take_branch(program, &mut unit.state, table) {
+        Ok(term) => Ok(Look::Noted(term)),
+        Err(TermRefusal::TooMany) => Ok(Look::TooMany),
+        Err(TermRefusal::Memory) => Err(AllocError),
+    }
 }
 
 // Takes a processor's branch on a term, if it is at one and may.
@@ -256,7 +236,6 @@ fn note_unit(
 
 // Takes the branch of a processor of a machine on a term, if it is at one and may.
 fn note(set: &Set, machine: &mut Machine, p: ProcId) -> Result<Look, AllocError>
-    requires valid { IsSet set.now }
     requires kept { IsKept set.now machine.old }
     requires proc { p.0 < proc_count set.now.topo }
     ensures { IfOk result (λ look. IsLookOf set.now p.0 machine.old look machine.new) }
@@ -275,7 +254,6 @@ fn step(
     p: ProcId,
     terms: &mut Vec<u32>,
 ) -> Result<bool, AllocError>
-    requires valid { IsSet set.now }
     requires kept { IsKept set.now machine.old }
     requires proc { p.0 < proc_count set.now.topo }
     ensures may { IfOk result (λ goes. goes ≡ true → enabled set.now (state_of machine.old).state p.0 ≡ true) }
@@ -305,8 +283,7 @@ pub(crate) fn go_noting(
     machine: &mut Machine,
     steps: &[u32],
 ) -> Result<Option<Vec<u32>>, AllocError>
-    requires valid { IsSet set.now }
-    requires kept { IsKept set.now machine.old }
+    requires { IsKept set.now machine.old }
     ensures goes { IfOk result (λ found. IfSome found (λ terms.
         along_noting set.now (noted_at (state_of machine.old) []) steps.now ≡ Some (noted_at (state_of machine.new) terms.items))) }
     ensures kept { IfOk result (λ found. IfSome found (λ terms.

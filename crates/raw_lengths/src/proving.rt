@@ -7,13 +7,11 @@ ghost use Rattle.raw_term.specs.Claims.{Meets};
 ghost use Rattle.raw_row_terms.specs.RowClaims.{HasRows, HasPortsOf, misfed};
 ghost use Rattle.raw_row_terms.specs.Right.{MeetsRows};
 ghost use Rattle.raw_rows.specs.Lengths.{IsLengthProof};
-ghost use Rattle.raw_cut.specs.Parts.{IsSameBut};
 ghost use Rattle.raw_lengths.specs.Proofs.{proof_of};
 
 use crate::deciding::is_length_proof;
 use crate::proof::LengthProof;
 use crate::seeking::find_length_proof;
-use raw_cut::replace;
 use raw_model::{PortProg, Set};
 use raw_rows::law_lengths;
 use raw_stream::StreamFlow;
@@ -55,30 +53,15 @@ fn has_steps(limit: u32, proof: &LengthProof) -> bool
     }
 }
 
-// A copy of the ports of a set.
-fn ports_of(alloc: Global, set: &Set) -> Result<Vec<PortProg>, AllocError>
-    ensures { IfOk result (λ ports. ports.items ≡ set.now.ports) }
-{
-    let mut ports = Vec::with_capacity(alloc, set.ports.len())?;
-    for port in &set.ports {
-        ports.push(PortProg {
-            words: port.words.to_vec(alloc)?,
-            capacity: port.capacity,
-        })?;
-    }
-    Ok(ports)
-}
-
-// Whether a proof that is looked for shows that a set computes all rows of a stream. The set gets other ports and another
-// limit.
-fn is_proved(alloc: Global, set: &mut Set, stream: &StreamFlow) -> Result<bool, AllocError>
+/// Whether a set is proved to compute all rows of a stream, with any words in its sources, by one kernel for all times that
+/// its loops go round. The set has to have as many words as all rows take.
+pub fn prove_length(alloc: Global, set: &Set, stream: &StreamFlow) -> Result<bool, AllocError>
     requires rows { HasRows stream.now }
-    requires ports { HasPortsOf set.old stream.now }
-    requires counts { misfed set.old stream.now ≡ None }
-    ensures meets { IfOk result (λ yes. yes ≡ true → MeetsRows set.old stream.now) }
+    requires ports { HasPortsOf set.now stream.now }
+    requires counts { misfed set.now stream.now ≡ None }
+    ensures meets { IfOk result (λ yes. yes ≡ true → MeetsRows set.now stream.now) }
     // So it meets the flow that the stream is when it is unrolled.
-    ensures unrolled { IfOk result (λ yes. yes ≡ true → Meets set.old (unrolled stream.now)) }
-    ensures same { IsSameBut set.old set.new }
+    ensures unrolled { IfOk result (λ yes. yes ≡ true → Meets set.now (unrolled stream.now)) }
 {
     let limit = set.limit;
     if !have_room(set, stream) {
@@ -92,22 +75,4 @@ fn is_proved(alloc: Global, set: &mut Set, stream: &StreamFlow) -> Result<bool, 
     }
     law_lengths();
     is_length_proof(alloc, set, stream, &proof)
-}
-
-/// Whether a set is proved to compute all rows of a stream, with any words in its sources, by one kernel for all times that
-/// its loops go round. The set has to have as many words as all rows take. It is left as it was, but where memory is wanting.
-pub fn prove_length(alloc: Global, set: &mut Set, stream: &StreamFlow) -> Result<bool, AllocError>
-    requires rows { HasRows stream.now }
-    requires ports { HasPortsOf set.old stream.now }
-    requires counts { misfed set.old stream.now ≡ None }
-    ensures meets { IfOk result (λ yes. yes ≡ true → MeetsRows set.old stream.now) }
-    // So it meets the flow that the stream is when it is unrolled.
-    ensures unrolled { IfOk result (λ yes. yes ≡ true → Meets set.old (unrolled stream.now)) }
-    ensures stays { IfOk result (λ yes. set.new ≡ set.old) }
-{
-    let limit = set.limit;
-    let ports = ports_of(alloc, set)?;
-    let is_met = is_proved(alloc, set, stream)?;
-    replace(set, limit, ports);
-    Ok(is_met)
 }

@@ -1,7 +1,6 @@
 //! Where the control of a run stands as before, while words that it counts fall.
 ghost use Rattle.std.specs.Prelude.{◌≡◌, length};
 ghost use Rattle.raw_grid.specs.Wires.{wires_of};
-ghost use Rattle.raw_model.specs.Program.{IsSet};
 ghost use Rattle.raw_cut.specs.Kept.{IsKept};
 
 use raw_cut::{Moment, moment_of, sweep};
@@ -244,8 +243,7 @@ impl Search {
         set: &Set,
         mut machine: Machine,
     ) -> Result<(), AllocError>
-        requires valid { IsSet set.now }
-        requires kept { IsKept set.now machine }
+        requires { IsKept set.now machine }
     {
         for count in 1..MOST_SWEEPS {
             match sweep(set, &mut machine, &mut self.steps)? {

@@ -1,8 +1,6 @@
 //! The search for a proof for all rows. What it finds is checked as any other.
 ghost use Rattle.std.specs.Prelude.{◌≡◌, true, IfOk};
-ghost use Rattle.raw_model.specs.Program.{IsSet};
 ghost use Rattle.raw_cut.specs.Kept.{IsKept};
-ghost use Rattle.raw_cut.specs.Parts.{IsSameBut};
 
 use crate::counters::{counted_on, first_words, values_of as values_at};
 use crate::deciding::last_carried;
@@ -47,12 +45,10 @@ struct Course {
 // Runs a set with terms, and notes where its control recurs.
 fn course_of(
     alloc: Global,
-    set: &mut Set,
+    set: &Set,
     stream: &StreamFlow,
     bounds: Bounds,
-) -> Result<Option<Course>, AllocError>
-    ensures { IsSameBut set.old set.new }
-{
+) -> Result<Option<Course>, AllocError> {
     let nodes = known(alloc, &stream.nodes)?;
     let Some(start) = start_of(alloc, set, stream)? else {
         return Ok(None);
@@ -66,20 +62,26 @@ fn course_of(
         &start,
         bounds.many,
     )?;
-    let Some(Begun { machine, .. }) = begins else {
+    let Some(
+        Begun {
+            set: seen,
+            machine,
+            ..
+        },
+    ) = begins
+    else {
         return Ok(None);
     };
-    let widths = port_widths(alloc, set, stream)?;
-    let mut search = Search::begin(alloc, set, &machine, widths)?;
-    search.recur(alloc, set, machine)?;
+    let widths = port_widths(alloc, &seen, stream)?;
+    let mut search = Search::begin(alloc, &seen, &machine, widths)?;
+    search.recur(alloc, &seen, machine)?;
     let Search { steps, found, .. } = search;
     Ok(Some(Course { steps, found }))
 }
 
 // Goes along a list of steps, each a processor's. Where it does not, the machine is not used again.
 fn go_to(set: &Set, machine: &mut Machine, steps: &[u32]) -> Result<bool, AllocError>
-    requires valid { IsSet set.now }
-    requires kept { IsKept set.now machine.old }
+    requires { IsKept set.now machine.old }
     ensures { IfOk result (λ goes. goes ≡ true → IsKept set.now machine.new) }
 {
     go_along(set, machine, steps)
@@ -95,15 +97,13 @@ struct Told {
 // The cut to which steps lead, where registers that count are told by counters: so many for each group.
 fn cut_at(
     alloc: Global,
-    set: &mut Set,
+    set: &Set,
     stream: &StreamFlow,
     bounds: Bounds,
     steps: &[u32],
     recurrence: &Recurrence,
     groups: &[Group],
-) -> Result<Option<Told>, AllocError>
-    ensures { IsSameBut set.old set.new }
-{
+) -> Result<Option<Told>, AllocError> {
     let strangers = counters_for(alloc, groups, recurrence.rows, 0, true)?;
     let Some(extended) = with_counters(alloc, stream, &strangers)? else {
         return Ok(None);
@@ -123,6 +123,7 @@ fn cut_at(
     )?;
     let Some(
         Begun {
+            set: seen,
             mut machine,
             rows,
             ..
@@ -134,10 +135,10 @@ fn cut_at(
     let Some(run) = values_of(alloc, &mut machine.table, &extended, &nodes, &rows)? else {
         return Ok(None);
     };
-    if !go_to(set, &mut machine, steps)? {
+    if !go_to(&seen, &mut machine, steps)? {
         return Ok(None);
     }
-    let widths = port_widths(alloc, set, stream)?;
+    let widths = port_widths(alloc, &seen, stream)?;
     for back in BACK {
         let Some(base) = recurrence.whole.checked_sub(back) else {
             return Ok(None);
@@ -149,7 +150,7 @@ fn cut_at(
             return Ok(None);
         };
         let found = cut_from(
-            alloc, set, &extended, &run, &widths, &machine, first_rows, window,
+            alloc, &seen, &extended, &run, &widths, &machine, first_rows, window,
         )?;
         if let Some(mut cut) = found {
             let first = first_counter(stream);
@@ -170,25 +171,30 @@ fn first_counter(stream: &StreamFlow) -> u32 {
 // The terms on which a kernel branches, as nodes over the counters.
 fn looks_in(
     alloc: Global,
-    set: &mut Set,
+    set: &Set,
     stream: &StreamFlow,
     extended: &StreamFlow,
     cut: &Cut,
     kernel: &[u32],
     limit: u32,
     rows: u32,
-) -> Result<Option<Vec<Node>>, AllocError>
-    ensures { IsSameBut set.old set.new }
-{
+) -> Result<Option<Vec<Node>>, AllocError> {
     let all = u32::try_from(carried_count(&extended.nodes)).unwrap_or(0);
     let first = first_counter(stream);
     let carried = open_inputs(alloc, all)?;
     let many = rows.saturating_add(cut.window);
     let begins = begin_seeing(alloc, set, extended, limit, &carried, cut, many)?;
-    let Some(Begun { mut machine, .. }) = begins else {
+    let Some(
+        Begun {
+            set: seen,
+            mut machine,
+            ..
+        },
+    ) = begins
+    else {
         return Ok(None);
     };
-    let Some(terms) = go_noting(alloc, set, &mut machine, kernel)? else {
+    let Some(terms) = go_noting(alloc, &seen, &mut machine, kernel)? else {
         return Ok(None);
     };
     let many = all.saturating_add(1).saturating_sub(first);
@@ -240,21 +246,26 @@ fn counters_at(alloc: Global, counters: &[RowNode], rows: u32) -> Result<Vec<u32
 // Runs from a cut to the end, and says by which steps. None where it does not come to rest.
 fn ending_of(
     alloc: Global,
-    set: &mut Set,
+    set: &Set,
     extended: &StreamFlow,
     limit: u32,
     carried: &[Node],
     cut: &Cut,
     many: u32,
-) -> Result<Option<Vec<u32>>, AllocError>
-    ensures { IsSameBut set.old set.new }
-{
+) -> Result<Option<Vec<u32>>, AllocError> {
     let begins = begin_seeing(alloc, set, extended, limit, carried, cut, many)?;
-    let Some(Begun { mut machine, .. }) = begins else {
+    let Some(
+        Begun {
+            set: seen,
+            mut machine,
+            ..
+        },
+    ) = begins
+    else {
         return Ok(None);
     };
     let mut steps = Vec::new(alloc);
-    if !run_to_rest(set, &mut machine, &mut steps)? {
+    if !run_to_rest(&seen, &mut machine, &mut steps)? {
         return Ok(None);
     }
     Ok(Some(steps))
@@ -268,14 +279,12 @@ fn steps_in(alloc: Global, steps: &[u32], from: usize, to: usize) -> Result<Vec<
 // A proof whose kernel is what lies between the last two times that the control stood so.
 fn proof_at(
     alloc: Global,
-    set: &mut Set,
+    set: &Set,
     stream: &StreamFlow,
     bounds: Bounds,
     steps: &[u32],
     recurrence: &Recurrence,
-) -> Result<Option<LengthProof>, AllocError>
-    ensures { IsSameBut set.old set.new }
-{
+) -> Result<Option<LengthProof>, AllocError> {
     let opening = steps_in(alloc, steps, 0, recurrence.steps)?;
     let kernel = steps_in(alloc, steps, recurrence.before, recurrence.steps)?;
     let groups = groups_of(alloc, &recurrence.slots)?;
@@ -303,7 +312,7 @@ fn proof_at(
 // Finds how many kernels there are and how the set comes to its end.
 fn finish(
     alloc: Global,
-    set: &mut Set,
+    set: &Set,
     stream: &StreamFlow,
     extended: &StreamFlow,
     limit: u32,
@@ -314,9 +323,7 @@ fn finish(
     looks: Vec<Node>,
     opening: Vec<u32>,
     kernel: Vec<u32>,
-) -> Result<Option<LengthProof>, AllocError>
-    ensures { IsSameBut set.old set.new }
-{
+) -> Result<Option<LengthProof>, AllocError> {
     let many = u32::try_from(carried_count(&counters)).unwrap_or(0);
     let own = u32::try_from(carried_count(&stream.nodes)).unwrap_or(0);
     let places = steady_places(
@@ -358,16 +365,13 @@ fn finish(
 }
 
 /// Looks for a proof that a set whose processors execute at most so many instructions computes all rows of a stream. None
-/// where the search finds none. Nothing is said of what is found: `is_length_proof` checks it. The set gets other ports and
-/// another limit.
+/// where the search finds none. Nothing is said of what is found: `is_length_proof` checks it.
 pub fn find_length_proof(
     alloc: Global,
-    set: &mut Set,
+    set: &Set,
     stream: &StreamFlow,
     limit: u32,
-) -> Result<Option<LengthProof>, AllocError>
-    ensures { IsSameBut set.old set.new }
-{
+) -> Result<Option<LengthProof>, AllocError> {
     for rows in ROWS {
         let bounds = Bounds {
             limit,
@@ -386,12 +390,10 @@ pub fn find_length_proof(
 // The first proof from a place where the control recurs in a run that sees so many rows.
 fn first_proof(
     alloc: Global,
-    set: &mut Set,
+    set: &Set,
     stream: &StreamFlow,
     bounds: Bounds,
-) -> Result<Option<LengthProof>, AllocError>
-    ensures { IsSameBut set.old set.new }
-{
+) -> Result<Option<LengthProof>, AllocError> {
     let Some(course) = course_of(alloc, set, stream, bounds)? else {
         return Ok(None);
     };

@@ -3,7 +3,6 @@ ghost use Rattle.std.specs.Prelude.{◌≡◌, ◌+◌, ◌≤◌, true, length,
 ghost use Rattle.raw_stream.specs.Streams.{first_words};
 ghost use Rattle.raw_rows.specs.Kernels.{unknown};
 ghost use Rattle.raw_cut.specs.Cuts.{cut_of};
-ghost use Rattle.raw_cut.specs.Parts.{IsSameBut};
 ghost use Rattle.raw_lengths.specs.Proofs.{IsSteadySeen};
 
 use crate::looking::places_of;
@@ -15,11 +14,10 @@ use raw_stream::StreamFlow;
 use std::alloc::{AllocError, Global};
 
 /// Whether a list of steps leads from a cut to itself, so many rows later, where behind its own words
-/// a stream carries so many counters: the places, among nodes over these, of the terms on which it branches. None where it does not. The
-/// set gets other ports and another limit.
+/// a stream carries so many counters: the places, among nodes over these, of the terms on which it branches. None where it does not.
 pub(crate) fn steady_places(
     alloc: Global,
-    set: &mut Set,
+    set: &Set,
     stream: &StreamFlow,
     limit: u32,
     cut: &Cut,
@@ -29,9 +27,8 @@ pub(crate) fn steady_places(
     counters: u32,
     looks: &[Node],
 ) -> Result<Option<Vec<u32>>, AllocError>
-    ensures steady { IfOk result (λ found. IfSome found (λ places.
-        IsSteadySeen set.old stream.now limit (cut_of cut.now) steps.now later own counters looks.now places.items)) }
-    ensures same { IsSameBut set.old set.new }
+    ensures { IfOk result (λ found. IfSome found (λ places.
+        IsSteadySeen set.now stream.now limit (cut_of cut.now) steps.now later own counters looks.now places.items)) }
 {
     let Some(widths) = widths_of(stream) else {
         return Ok(None);
@@ -47,6 +44,7 @@ pub(crate) fn steady_places(
         return Ok(None);
     };
     let Begun {
+        set: seen,
         mut machine,
         rows,
         ..
@@ -55,14 +53,14 @@ pub(crate) fn steady_places(
     let Some(numbers) = place_all(alloc, &mut machine.table, &ins, looks)? else {
         return Ok(None);
     };
-    let Some(terms) = go_noting(alloc, set, &mut machine, steps)? else {
+    let Some(terms) = go_noting(alloc, &seen, &mut machine, steps)? else {
         return Ok(None);
     };
     let Some(places) = places_of(alloc, &numbers, &terms)? else {
         return Ok(None);
     };
     if !arrives(
-        alloc, set, stream, widths, &carried, machine, &rows, later, cut,
+        alloc, &seen, stream, widths, &carried, machine, &rows, later, cut,
     )? {
         return Ok(None);
     }

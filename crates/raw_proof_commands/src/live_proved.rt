@@ -69,12 +69,12 @@ fn prove_rows<K: Sink>(alloc: Global, claim: RowClaim, out: &mut K) -> Answer
         Obeyed (Reads ProveLive) input (sink_seen K.sight out.old out.new) result }
 {
     let input = claim.input;
-    let mut set = claim.set;
+    let set = claim.set;
     let stream = input.stream;
     let Ok(seated) = seat(alloc, &set, &stream) else {
         return Err(Failure::Memory);
     };
-    match prove_live(alloc, &mut set, &seated.stream) {
+    match prove_live(alloc, &set, &seated.stream) {
         Ok(Some(extent)) => put_extent(alloc, &extent, &seated.order, out),
         Ok(None) => ended(write_no_cut(out), CommandEnding::Unproved),
         Err(_) => Err(Failure::Memory),

@@ -162,13 +162,12 @@ fn outs_of(stream: &StreamFlow, order: &[u32]) -> Option<u64>
 // How many outs the stream has, where it is proved by rows.
 fn by_rows(
     alloc: Global,
-    set: &mut Set,
+    set: &Set,
     stream: &StreamFlow,
     order: &[u32],
 ) -> Result<Option<u64>, AllocError>
-    requires { RowsStand set.old stream.now order.now }
-    ensures proof { IfOk result (λ found. IfSome found (λ outs. IsProofByRows set.old stream.now order.now set.new outs)) }
-    ensures stays { IfOk result (λ found. set.new ≡ set.old) }
+    requires { RowsStand set.now stream.now order.now }
+    ensures { IfOk result (λ found. IfSome found (λ outs. IsProofByRows set.now stream.now order.now set.now outs)) }
 {
     let Some(outs) = outs_of(stream, order) else {
         return Ok(None);
@@ -177,22 +176,6 @@ fn by_rows(
         Ok(Some(outs))
     } else {
         Ok(None)
-    }
-}
-
-// The answer where each port has as many words as all rows take.
-fn answer_fed(
-    alloc: Global,
-    set: &mut Set,
-    stream: &StreamFlow,
-    order: &[u32],
-) -> Result<Answer, AllocError>
-    requires { RowsStand set.old stream.now order.now }
-    ensures { IfOk result (λ answer. IsRowsAnswer set.old stream.now order.now set.new answer) }
-{
-    match by_rows(alloc, set, stream, order)? {
-        Some(outs) => Ok(Answer::ProvedByRows(outs)),
-        None => by_all_rows(alloc, set, stream, order),
     }
 }
 
@@ -217,6 +200,9 @@ pub fn answer_rows(
             inputs: stream.taken_of(port) as usize,
             words: words_at(set, port),
         })),
-        None => answer_fed(alloc, set, stream, order),
+        None => match by_rows(alloc, set, stream, order)? {
+            Some(outs) => Ok(Answer::ProvedByRows(outs)),
+            None => by_all_rows(alloc, set, stream, order),
+        },
     }
 }

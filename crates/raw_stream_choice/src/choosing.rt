@@ -45,10 +45,10 @@ fn found_set(alloc: Global, input: &StreamInput) -> Result<Option<Set>, AllocErr
         Err(failure) => return Err(failure),
     };
     match set_for(alloc, input, &pipeline.programs) {
-        Ok(Some(mut set)) => {
+        Ok(Some(set)) => {
             // The set is read so that its rules are known.
             let _limit = set.limit;
-            if is_proved(alloc, &mut set, &input.stream)? {
+            if is_proved(alloc, &set, &input.stream)? {
                 Ok(Some(set))
             } else {
                 Ok(None)

@@ -2,18 +2,16 @@
 ghost use Rattle.std.specs.Prelude.{◌≡◌, ◌≤◌, true, map, nat_le, IfOk, IfSome};
 ghost use Rattle.std.specs.List.{list_all};
 ghost use Rattle.raw_stream.specs.Kept.{IsStream};
-ghost use Rattle.raw_stream_choice.specs.StreamSets.{stream_topo, IsSetWith};
+ghost use Rattle.raw_stream_choice.specs.StreamSets.{stream_topo};
 ghost use Rattle.raw_stream_choice.specs.PortNumbers.{numbered};
 ghost use Rattle.raw_stream_choice.specs.Endless.{room_among, endless_port, endless_ports, IsLong, MeetsNumbersOfRows, IsEndlessChoice};
 
-use crate::copying::programs_of;
 use crate::meeting::few;
 use crate::numbered::{numbered, places_of};
-use crate::ports::topo_of;
 use crate::stream_set::set_with;
 use raw_cut::{Extent, prove_live};
 use raw_grid::{MAX_TILES, PortKind, PortPlace};
-use raw_model::limits::{DEFAULT_DEPTH, MAX_ALL_CAPACITIES, MAX_CAPACITY};
+use raw_model::limits::{MAX_ALL_CAPACITIES, MAX_CAPACITY};
 use raw_model::{PortProg, Set, TileProg};
 use raw_pipeline::find_pipeline;
 use raw_stream::StreamFlow;
@@ -69,33 +67,6 @@ fn endless_ports(alloc: Global, stream: &StreamFlow) -> Result<Option<Vec<PortPr
     Ok(Some(ports))
 }
 
-// The same set once more.
-fn copy_of(alloc: Global, stream: &StreamFlow, set: &Set) -> Result<Option<Set>, AllocError>
-    requires { IsSetWith stream.now (endless_ports stream.now) set.now }
-    ensures { IfOk result (λ found. IfSome found (λ copy. copy ≡ set.now)) }
-{
-    let limit = set.limit;
-    let topo = match topo_of(alloc, stream) {
-        Ok(Some(topo)) => topo,
-        Ok(None) => return Ok(None),
-        Err(failure) => return Err(failure),
-    };
-    let ports = match endless_ports(alloc, stream) {
-        Ok(Some(ports)) => ports,
-        Ok(None) => return Ok(None),
-        Err(failure) => return Err(failure),
-    };
-    let tiles = programs_of(alloc, &set.tiles)?;
-    Ok(Some(Set {
-        topo,
-        limit,
-        depth: DEFAULT_DEPTH,
-        ports,
-        tiles,
-        shows: Vec::new(alloc),
-    }))
-}
-
 // The least number of rows for which a set is proved, or what a port lacks, whichever is the most. Nothing is said of it.
 fn delay_of(extent: &Extent) -> u32 {
     let mut delay = extent.least;
@@ -125,14 +96,14 @@ fn is_long(extent: &Extent) -> bool
 // Whether a set is proved to meet a stream, of which this is the twin with the numbers of the ports of the set.
 fn meets_twin(
     alloc: Global,
-    set: &mut Set,
+    set: &Set,
     stream: &StreamFlow,
     twin: &StreamFlow,
 ) -> Result<bool, AllocError>
     requires stream { IsStream stream.now }
-    requires grid { set.old.topo ≡ stream_topo stream.now }
+    requires grid { set.now.topo ≡ stream_topo stream.now }
     requires twin { twin.now ≡ numbered stream.now }
-    ensures { IfOk result (λ is. is ≡ true → MeetsNumbersOfRows stream.now set.old) }
+    ensures { IfOk result (λ is. is ≡ true → MeetsNumbersOfRows stream.now set.now) }
 {
     // The set is read so that its rules are known.
     let _limit = set.limit;
@@ -142,11 +113,11 @@ fn meets_twin(
     }
 }
 
-// Whether a set with the grid of a stream is proved to meet it. The set gets other ports and another limit.
-fn meets_rows(alloc: Global, set: &mut Set, stream: &StreamFlow) -> Result<bool, AllocError>
+// Whether a set with the grid of a stream is proved to meet it.
+fn meets_rows(alloc: Global, set: &Set, stream: &StreamFlow) -> Result<bool, AllocError>
     requires stream { IsStream stream.now }
-    requires grid { set.old.topo ≡ stream_topo stream.now }
-    ensures { IfOk result (λ is. is ≡ true → MeetsNumbersOfRows stream.now set.old) }
+    requires grid { set.now.topo ≡ stream_topo stream.now }
+    ensures { IfOk result (λ is. is ≡ true → MeetsNumbersOfRows stream.now set.now) }
 {
     let Some(sources) = few(stream.sources.len()) else {
         return Ok(false);
@@ -179,12 +150,7 @@ fn met_set(
     };
     // The set is read so that its rules are known.
     let _limit = set.limit;
-    let mut copy = match copy_of(alloc, stream, &set) {
-        Ok(Some(copy)) => copy,
-        Ok(None) => return Ok(None),
-        Err(failure) => return Err(failure),
-    };
-    if meets_rows(alloc, &mut copy, stream)? {
+    if meets_rows(alloc, &set, stream)? {
         Ok(Some(set))
     } else {
         Ok(None)

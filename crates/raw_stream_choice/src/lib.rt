@@ -4,7 +4,6 @@
 #![tactic(auto)]
 
 mod choosing;
-mod copying;
 mod endless;
 mod laws;
 mod meeting;

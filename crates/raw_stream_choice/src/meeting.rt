@@ -31,13 +31,12 @@ pub(crate) fn few(ports: usize) -> Option<u16>
 // Whether a set is proved by rows to meet a stream, of which this is the twin with the numbers of the ports of the set.
 fn is_proved_by_rows(
     alloc: Global,
-    set: &mut Set,
+    set: &Set,
     stream: &StreamFlow,
     twin: &StreamFlow,
 ) -> Result<bool, AllocError>
-    requires { TwinStands set.old stream.now twin.now }
-    ensures meets { IfOk result (λ is. is ≡ true → Meets set.old (unrolled stream.now)) }
-    ensures stays { IfOk result (λ is. set.new ≡ set.old) }
+    requires { TwinStands set.now stream.now twin.now }
+    ensures { IfOk result (λ is. is ≡ true → Meets set.now (unrolled stream.now)) }
 {
     match misfed(set, twin) {
         Some(_) => Ok(false),
@@ -64,18 +63,12 @@ fn is_twin_proved(
     }
 }
 
-/// Whether a set for a stream is proved to meet the flow that the stream is when it is unrolled. It is left as it was, but
-/// where memory is wanting.
-pub(crate) fn is_proved(
-    alloc: Global,
-    set: &mut Set,
-    stream: &StreamFlow,
-) -> Result<bool, AllocError>
-    requires valid { IsSet set.old }
+/// Whether a set for a stream is proved to meet the flow that the stream is when it is unrolled.
+pub(crate) fn is_proved(alloc: Global, set: &Set, stream: &StreamFlow) -> Result<bool, AllocError>
+    requires valid { IsSet set.now }
     requires stream { IsStream stream.now }
-    requires grid { set.old.topo ≡ stream_topo stream.now }
-    ensures meets { IfOk result (λ is. is ≡ true → Meets set.old (unrolled stream.now)) }
-    ensures stays { IfOk result (λ is. set.new ≡ set.old) }
+    requires grid { set.now.topo ≡ stream_topo stream.now }
+    ensures { IfOk result (λ is. is ≡ true → Meets set.now (unrolled stream.now)) }
 {
     if !has_few_outs(stream) {
         return Ok(false);

@@ -102,12 +102,8 @@ fn read(alloc: Global, bytes: &[u8]) -> Result<Claim, Fail>
 
 // For how many rows a set is proved at most.
 fn most_rows(alloc: Global, bytes: &[u8]) -> Result<Option<u32>, Fail> {
-    let Claim {
-        mut set,
-        stream,
-        ..
-    } = read(alloc, bytes)?;
-    match prove_live(alloc, &mut set, &stream)? {
+    let Claim { set, stream, .. } = read(alloc, bytes)?;
+    match prove_live(alloc, &set, &stream)? {
         Some(Extent { most, .. }) => Ok(Some(most)),
         None => Ok(None),
     }
@@ -148,16 +144,12 @@ fn spoil(proof: &mut LiveProof, way: u32) -> bool {
 fn no_wrong_proof_is_taken(rt: HostRuntime) -> Result<(), Fail> {
     for way in 0..7 {
         let alloc = rt.alloc();
-        let Claim {
-            mut set,
-            stream,
-            ..
-        } = read(alloc, SUMS)?;
-        let Some(mut proof) = find_live_proof(alloc, &mut set, &stream, 100_000)? else {
+        let Claim { set, stream, .. } = read(alloc, SUMS)?;
+        let Some(mut proof) = find_live_proof(alloc, &set, &stream, 100_000)? else {
             return Err("no proof".into());
         };
         if spoil(&mut proof, way) {
-            assert!(rt; !is_live_proof(alloc, &mut set, &stream, &proof)?);
+            assert!(rt; !is_live_proof(alloc, &set, &stream, &proof)?);
         }
     }
     Ok(())

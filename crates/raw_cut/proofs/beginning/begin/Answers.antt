@@ -2,7 +2,7 @@ use Rattle.std.proofs.Common.{◌≡◌, ℕ, List, length, map, sym, ap, ◌∙
 use Rattle.std.proofs.lemmas.List.{length-map}
 use Rattle.raw_grid.specs.Topology.{proc_count}
 use Rattle.raw_grid.specs.Wires.{wires_of}
-use Rattle.raw_model.specs.Program.{ProgramSet}
+use Rattle.raw_model.specs.Program.{ProgramSet, IsSet}
 use Rattle.raw_model.specs.Local.{Local}
 use Rattle.raw_serial.specs.Fresh.{AreAllEnds}
 use Rattle.raw_stream.specs.Streams.{valued}
@@ -34,6 +34,7 @@ returns-clause-kept c =
     let count : c.wires-count.result ≡ length (wires_of c.args.set.now.topo) = c.wires-count.ensures.value ∙ ap (λ (g : ProgramSet). length (wires_of g.topo)) c.set.view_is in
     let ends : AreAllEnds c.args.set.now.topo c.in_ok-ends.ends.items = subst (λ (g : ProgramSet). AreAllEnds g.topo c.in_ok-ends.ends.items) c.set.view_is c.in_ok-ends.ensures in
     record {
+      valid = subst IsSet c.set.view_is c.set.invariant;
       each = sym (length-map c.in-Some.units.items local_of) ∙ ap length locals ∙ length-map (map local_at c.deref-locals.result.now) (renumbered ns) ∙ length-map c.deref-locals.result.now local_at ∙ c.if-locals-procs.false ∙ procs;
       units = some_so _ c.in_ok-units.field-0 c.in-Some.units c.in-Some.is c.in_ok-units.ensures.kept;
       each_end = ends.each_end;

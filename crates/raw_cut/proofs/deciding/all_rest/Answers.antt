@@ -6,7 +6,6 @@ use Rattle.raw_stream.specs.Streams.{Stream}
 use Rattle.raw_rows.specs.Kernels.{Cut, RestsSeeing, unknown}
 use Rattle.raw_cut.specs.Cuts.{cut_of}
 use Rattle.raw_cut.proofs.Copies.{index_map}
-use Rattle.raw_cut.proofs.Same.{same_then, rests_same}
 use Rattle.raw_cut.proofs.deciding.all_rest.Goals as goal
 
 pub loop-i-preserved : goal.loop-i-preserved
@@ -23,19 +22,15 @@ loop-i-preserved c =
     let at : slice_index_or lists i [] ≡ c.deref.result.now =
     index_map (λ steps. steps.items) w.endings.items i [] c.index.result.now below ∙ ap (λ steps. steps.items) (sym c.index.ensures) ∙ sym c.deref.ensures.value in
     let here : RestsSeeing set s w.last_limit (unknown s) cut (slice_index_or lists i []) w.lacks.items (w.cut.window + i) =
-    rests_same set c.loop-i.set c.loop-i.invariant.same s w.last_limit (unknown s) cut (slice_index_or lists i []) w.lacks.items (w.cut.window + i)
-    (subst (λ (steps : List ℕ). RestsSeeing c.loop-i.set s w.last_limit (unknown s) cut steps w.lacks.items (w.cut.window + i)) (sym at)
-    (subst (λ (ls : List ℕ). RestsSeeing c.loop-i.set s w.last_limit (unknown s) cut c.deref.result.now ls (w.cut.window + i)) c.deref-in-loop-i.ensures.value
-    (subst (λ (n : ℕ). RestsSeeing c.loop-i.set s w.last_limit (unknown s) cut c.deref.result.now c.deref-in-loop-i.result.now n) many (c.in_ok-rests.ensures.rests c.if-not-branch.false)))) in
-    record {
-      rests = λ j less.
-          ⊎_elim (λ (earlier : j < i). c.loop-i.invariant.rests j earlier)
-          (λ (past : i ≤ j).
-          let is : j ≡ i = omega (arith, less, past) in
-          subst (λ (k : ℕ). RestsSeeing set s w.last_limit (unknown s) cut (slice_index_or lists k []) w.lacks.items (w.cut.window + k)) (sym is) here)
-          (cases_lt j i);
-      same = same_then set c.loop-i.set c.rests.new.set c.loop-i.invariant.same c.rests.ensures.same;
-    }
+    subst (λ (steps : List ℕ). RestsSeeing set s w.last_limit (unknown s) cut steps w.lacks.items (w.cut.window + i)) (sym at)
+    (subst (λ (ls : List ℕ). RestsSeeing set s w.last_limit (unknown s) cut c.deref.result.now ls (w.cut.window + i)) c.deref-in-loop-i.ensures.value
+    (subst (λ (n : ℕ). RestsSeeing set s w.last_limit (unknown s) cut c.deref.result.now c.deref-in-loop-i.result.now n) many (c.in_ok-rests.ensures c.if-not-branch.false))) in
+    λ j less.
+    ⊎_elim (λ (earlier : j < i). c.loop-i.invariant j earlier)
+    (λ (past : i ≤ j).
+    let is : j ≡ i = omega (arith, less, past) in
+    subst (λ (k : ℕ). RestsSeeing set s w.last_limit (unknown s) cut (slice_index_or lists k []) w.lacks.items (w.cut.window + k)) (sym is) here)
+    (cases_lt j i)
 
-pub returns-clause-rests : goal.returns-clause-rests
-returns-clause-rests c = λ _ i below. c.loop-i.invariant.rests i (omega (arith, below, c.loop-i-test.false))
+pub returns : goal.returns
+returns c = λ _ i below. c.loop-i.invariant i (omega (arith, below, c.loop-i-test.false))

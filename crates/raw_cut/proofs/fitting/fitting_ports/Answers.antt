@@ -2,7 +2,7 @@ use Rattle.std.proofs.Common.{◌≡◌, ℕ, List, length, map, subst}
 use Rattle.raw_model.specs.Program.{ProgramSet, PortProgram}
 use Rattle.raw_cut.specs.Parts.{AreFit, ports_with}
 use Rattle.raw_cut.proofs.Copies.{some_so}
-use Rattle.raw_cut.proofs.Same.{ports_fit}
+use Rattle.raw_cut.proofs.Fits.{ports_fit}
 use Rattle.raw_cut.proofs.fitting.fitting_ports.Goals as goal
 
 pub returns-clause-ports : goal.returns-clause-ports

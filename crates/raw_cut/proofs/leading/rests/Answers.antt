@@ -15,11 +15,10 @@ use Rattle.raw_cut.proofs.Decided.{unknown_is}
 use Rattle.raw_cut.proofs.Facing.{rests_due}
 use Rattle.raw_cut.proofs.leading.rests.Goals as goal
 
-pub returns-clause-rests : goal.returns-clause-rests
-returns-clause-rests c =
+pub returns : goal.returns
+returns c =
     let s : Stream = c.args.stream.now in
     let set : ProgramSet = c.args.set.now in
-    let new : ProgramSet = c.come_to_rest.new.set in
     let from : Cut = cut_of c.args.from.now in
     let last : Begun = c.in-Some-2.last in
     let at : TermState = state_of last.machine in
@@ -28,9 +27,9 @@ returns-clause-rests c =
     subst (λ (nodes : List Node). ComesToRest set s c.args.limit nodes from c.args.steps.now c.args.many last) (c.deref.ensures.value ∙ carried_is)
     (some_so _ c.in_ok-last.field-0 last c.in-Some-2.is c.in_ok-last.ensures.rests) in
     IfOk-weaker c.has_all_due.result _ _
-    (λ yes due e. rests_due set new c.come_to_rest.ensures.same s c.args.limit (unknown s) from c.args.steps.now c.args.lacks.now c.args.many last rests
-    (subst (λ vs. HasDue s (tile_count new.topo) (passed s (unknown s) at (map (λ row. row.items) vs)).values c.args.lacks.now at.state) c.deref-3.ensures.value
-    (subst (λ (nodes : List Node). HasDue s (tile_count new.topo) (passed s nodes at (map (λ row. row.items) c.deref-3.result.now)).values c.args.lacks.now at.state) (c.deref-2.ensures.value ∙ carried_is) (due e))))
+    (λ yes due e. rests_due set s c.args.limit (unknown s) from c.args.steps.now c.args.lacks.now c.args.many last rests
+    (subst (λ vs. HasDue s (tile_count last.set.topo) (passed s (unknown s) at (map (λ row. row.items) vs)).values c.args.lacks.now at.state) c.deref-3.ensures.value
+    (subst (λ (nodes : List Node). HasDue s (tile_count last.set.topo) (passed s nodes at (map (λ row. row.items) c.deref-3.result.now)).values c.args.lacks.now at.state) (c.deref-2.ensures.value ∙ carried_is) (due e))))
     c.has_all_due.ensures
 
 pub has_all_due-requires-clause-kept : goal.has_all_due-requires-clause-kept

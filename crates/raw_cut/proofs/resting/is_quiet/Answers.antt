@@ -19,7 +19,7 @@ pub returns : goal.returns
 returns c =
     let all : c.procs-p-end.result ≡ proc_count c.args.set.now.topo = c.procs-p-end.ensures.value ∙ ap (λ (g : ProgramSet). proc_count g.topo) c.set.view_is in
     record {
-      quiet = λ _. quiet_all c.args.set.now c.args.machine.now c.loop-p.p c.requires.kept (omega (arith, all, c.loop-p-test.false)) c.loop-p.invariant.none;
+      quiet = λ _. quiet_all c.args.set.now c.args.machine.now c.loop-p.p c.requires (omega (arith, all, c.loop-p-test.false)) c.loop-p.invariant.none;
       stays = λ _. c.loop-p.invariant.same;
       kept = λ _. c.loop-p.invariant.stands;
     }

@@ -1,10 +1,28 @@
 use Rattle.std.proofs.Common.{sym, subst}
-use Rattle.raw_model.specs.Local.{Source, Sink}
+use Rattle.std.proofs.lemmas.Result.{IfOk-weaker}
+use Rattle.raw_model.specs.Local.{Tile, Switch, Source, Sink}
 use Rattle.raw_prove.specs.declared.unit.Unit.{Unit}
 use Rattle.raw_prove.specs.Units.{local_of}
 use Rattle.raw_prove.specs.Turns.{IsTurn}
 use Rattle.raw_cut.specs.Kept.{IsUnitWith}
+use Rattle.raw_cut.proofs.Turning.{tile_turn, switch_turn}
 use Rattle.raw_cut.proofs.stepping.turn_unit.Goals as goal
+
+pub returns-in-Tile-clause-turn : goal.returns-in-Tile-clause-turn
+returns-in-Tile-clause-turn c =
+    IfOk-weaker c.turn_tile.result _ _
+    (λ turn is.
+    subst (λ (u : Unit). IsTurn c.args.set.now c.args.p.0 c.args.table.now (local_of u) c.args.wires.now turn c.turn_tile.new.table (Tile c.turn_tile.new.unit.tile) c.turn_tile.new.wires) (sym c.in-Tile.is)
+    (tile_turn c.args.set.now c.args.p.0 c.args.wires.now c.args.table.now c.turn_tile.new.table c.turn_tile.new.wires turn c.in-Tile.tile.tile c.turn_tile.new.unit.tile is))
+    c.turn_tile.ensures.turn
+
+pub returns-in-Switch-clause-turn : goal.returns-in-Switch-clause-turn
+returns-in-Switch-clause-turn c =
+    IfOk-weaker c.turn_switch.result _ _
+    (λ turn is.
+    subst (λ (u : Unit). IsTurn c.args.set.now c.args.p.0 c.args.table.now (local_of u) c.args.wires.now turn c.turn_switch.new.table (Switch c.turn_switch.new.unit.state) c.turn_switch.new.wires) (sym c.in-Switch.is)
+    (switch_turn c.args.set.now c.args.p.0 c.args.wires.now c.args.table.now c.turn_switch.new.table c.turn_switch.new.wires turn c.in-Switch.switch.state c.turn_switch.new.unit.state is))
+    c.turn_switch.ensures.turn
 
 pub returns-in-Source-clause-turn : goal.returns-in-Source-clause-turn
 returns-in-Source-clause-turn c =

@@ -14,7 +14,6 @@ use Rattle.raw_cut.specs.declared.leading.Begun.{Begun}
 use Rattle.raw_cut.specs.Cuts.{cut_of}
 use Rattle.raw_cut.specs.Seeing.{ComesToRest}
 use Rattle.raw_cut.proofs.Copies.{some_so}
-use Rattle.raw_cut.proofs.Same.{topo_same}
 use Rattle.raw_lengths.proofs.closing.ends.Goals as goal
 
 pub has_all_due-requires-clause-kept : goal.has_all_due-requires-clause-kept
@@ -23,11 +22,10 @@ has_all_due-requires-clause-kept c = some_so _ c.in_ok-last.field-0 c.in-Some.la
 pub has_all_due-requires-clause-many : goal.has_all_due-requires-clause-many
 has_all_due-requires-clause-many c = (some_so _ c.in_ok-last.field-0 c.in-Some.last c.in-Some.is c.in_ok-last.ensures.rests).many
 
-pub returns-clause-ends : goal.returns-clause-ends
-returns-clause-ends c =
+pub returns : goal.returns
+returns c =
     let s : Stream = c.args.stream.now in
     let set : ProgramSet = c.args.set.now in
-    let new : ProgramSet = c.come_to_rest.new.set in
     let carried : List Node = c.args.carried.now in
     let from : Cut = cut_of c.args.from.now in
     let last : Begun = c.in-Some.last in
@@ -41,9 +39,9 @@ returns-clause-ends c =
         at = at;
         goes = rests.goes;
         quiet = rests.quiet;
-        due = subst (λ (topo : Topology). HasDue s (tile_count topo) (passed s carried at (open_rows s c.args.many)).values [] at.state) (topo_same set new c.come_to_rest.ensures.same)
-            (subst (λ (ws : List (List ℕ)). HasDue s (tile_count new.topo) (passed s carried at ws).values [] at.state) rests.rows
-            (subst (λ vs. HasDue s (tile_count new.topo) (passed s carried at (map (λ row. row.items) vs)).values [] at.state) c.deref-2.ensures.value (due e)));
+        due = subst (λ (topo : Topology). HasDue s (tile_count topo) (passed s carried at (open_rows s c.args.many)).values [] at.state) rests.grid
+            (subst (λ (ws : List (List ℕ)). HasDue s (tile_count last.set.topo) (passed s carried at ws).values [] at.state) rests.rows
+            (subst (λ vs. HasDue s (tile_count last.set.topo) (passed s carried at (map (λ row. row.items) vs)).values [] at.state) c.deref-2.ensures.value (due e)));
       };
       halted = halted;
     })

@@ -7,10 +7,8 @@ use Rattle.raw_stream.specs.Streams.{Stream, AreRowNodes}
 use Rattle.raw_rows.specs.Kernels.{Leads, start_cut, known}
 use Rattle.raw_rows.specs.Lengths.{LengthProof, with_counters}
 use Rattle.raw_cut.proofs.Copies.{some_so}
-use Rattle.raw_cut.proofs.Same.{same_then}
 use Rattle.raw_cut.proofs.Decided.{words_of_nodes}
 use Rattle.raw_lengths.specs.Proofs.{proof_of}
-use Rattle.raw_lengths.proofs.Passing.{steady_same, done_same}
 use Rattle.raw_lengths.proofs.deciding.is_length_proof.Goals as goal
 
 pub passes_on-requires : goal.passes_on-requires
@@ -18,8 +16,8 @@ passes_on-requires c = record {
   extended = some_so _ c.in_ok-extended.field-0 c.in-Some.extended c.in-Some.is c.in_ok-extended.ensures ∙ ap (λ (ns : List RowNode). with_counters c.args.stream.now ns) c.deref-4.ensures.value;
 }
 
-pub returns-clause-proof : goal.returns-clause-proof
-returns-clause-proof c =
+pub returns : goal.returns
+returns c =
     let set : ProgramSet = c.args.set.now in
     let s : Stream = c.args.stream.now in
     let w : LengthProof = proof_of c.args.proof.now in
@@ -33,11 +31,8 @@ returns-clause-proof c =
       count = c.passes_all.ensures.count c.if-not-passes_all.false ∙ ap (λ (x : Stream). x.count) c.stream.view_is;
       window = c.passes_all.ensures.window c.if-not-passes_all.false;
       opens = subst (λ (x : Stream). Leads set x w.first_limit (known x) (start_cut set) w.opening w.first_rows w.cut) extended_is
-          (subst (λ (steps : List ℕ). Leads set c.in-Some.extended w.first_limit (known c.in-Some.extended) (start_cut set) steps w.first_rows w.cut) c.deref-5.ensures.value (c.in_ok-opens.ensures.opens c.if-not-branch.false));
-      steady = steady_same set c.opens.new.set c.opens.ensures.same s w (parts e).0;
-      ends = done_same set c.opens.new.set c.opens.ensures.same s w (parts e).1;
+          (subst (λ (steps : List ℕ). Leads set c.in-Some.extended w.first_limit (known c.in-Some.extended) (start_cut set) steps w.first_rows w.cut) c.deref-5.ensures.value (c.in_ok-opens.ensures c.if-not-branch.false));
+      steady = (parts e).0;
+      ends = (parts e).1;
     })
-    c.passes_on.ensures.parts
-
-pub returns-clause-same : goal.returns-clause-same
-returns-clause-same c = same_then c.args.set.now c.opens.new.set c.passes_on.new.set c.opens.ensures.same c.passes_on.ensures.same
+    c.passes_on.ensures

@@ -8,13 +8,12 @@ use Rattle.raw_stream.specs.Streams.{Stream, first_of, first_words}
 use Rattle.std.specs.Prelude.{length}
 use Rattle.raw_rows.specs.Lengths.{LengthProof, counting}
 use Rattle.raw_cut.proofs.Copies.{some_so}
-use Rattle.raw_cut.proofs.Same.{same_then}
 use Rattle.raw_lengths.specs.Proofs.{proof_of, IsSteadySeen, EndsSeeing, AreCounted}
-use Rattle.raw_lengths.proofs.Passing.{steady_of, ends_of, ends_same}
+use Rattle.raw_lengths.proofs.Passing.{steady_of, ends_of}
 use Rattle.raw_lengths.proofs.deciding.passes_on.Goals as goal
 
-pub returns-clause-parts : goal.returns-clause-parts
-returns-clause-parts c =
+pub returns : goal.returns
+returns c =
     let set : ProgramSet = c.args.set.now in
     let s : Stream = c.args.stream.now in
     let extended : Stream = c.args.extended.now in
@@ -28,19 +27,15 @@ returns-clause-parts c =
     let seen : IsSteadySeen set extended w.limit w.cut w.kernel w.rows own many w.looks places =
     subst (λ (ls : List Node). IsSteadySeen set extended w.limit w.cut w.kernel w.rows own many ls places) c.deref-3.ensures.value
     (subst (λ (ks : List ℕ). IsSteadySeen set extended w.limit w.cut ks w.rows own many c.deref-3.result.now places) c.deref-2.ensures.value
-    (some_so _ c.in_ok-places.field-0 c.in-Some-2.places c.in-Some-2.is c.in_ok-places.ensures.steady)) in
+    (some_so _ c.in_ok-places.field-0 c.in-Some-2.places c.in-Some-2.is c.in_ok-places.ensures)) in
     let counted = some_so _ c.in_ok-last.field-0 c.in-Some-3.last c.in-Some-3.is c.in_ok-last.ensures in
     let some : AreCounted w.counters w.looks places w.first_rows w.rows w.kernels = subst (λ (ps : List ℕ). AreCounted w.counters w.looks ps w.first_rows w.rows w.kernels) c.deref-4.ensures.value counted.0 in
     IfOk-weaker c.ends.result _ _
     (λ yes ends e.
     let there : EndsSeeing set extended w.last_limit c.in_ok-carried.carried.items w.cut w.ending w.last_rows =
-    ends_same set c.steady_places.new.set c.steady_places.ensures.same extended w.last_limit c.in_ok-carried.carried.items w.cut w.ending w.last_rows
-    (subst (λ (ks : List ℕ). EndsSeeing c.steady_places.new.set extended w.last_limit c.in_ok-carried.carried.items w.cut ks w.last_rows) c.deref-7.ensures.value
-    (subst (λ (ns : List Node). EndsSeeing c.steady_places.new.set extended w.last_limit ns w.cut c.deref-7.result.now w.last_rows) c.deref-6.ensures.value (ends e))) in (
+    subst (λ (ks : List ℕ). EndsSeeing set extended w.last_limit c.in_ok-carried.carried.items w.cut ks w.last_rows) c.deref-7.ensures.value
+    (subst (λ (ns : List Node). EndsSeeing set extended w.last_limit ns w.cut c.deref-7.result.now w.last_rows) c.deref-6.ensures.value (ends e)) in (
       steady_of set s extended w places c.requires.extended own many own_is many_is some seen,
       ends_of set s extended w places c.requires.extended own c.deref-5.result.now c.in_ok-carried.carried.items own_is (c.deref-5.ensures.value ∙ counted.1 s) c.in_ok-carried.ensures there,
     ))
-    c.ends.ensures.ends
-
-pub returns-clause-same : goal.returns-clause-same
-returns-clause-same c = same_then c.args.set.now c.steady_places.new.set c.ends.new.set c.steady_places.ensures.same c.ends.ensures.same
+    c.ends.ensures

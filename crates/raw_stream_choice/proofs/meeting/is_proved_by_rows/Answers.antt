@@ -17,8 +17,8 @@ pub prove_length-requires-clause-ports : goal.prove_length-requires-clause-ports
 prove_length-requires-clause-ports c =
     subst (λ (t : Stream). HasPortsOf c.args.set.now t) (sym c.requires.twin_is) (has_ports c.args.set.now c.args.stream.now c.requires.valid c.requires.grid)
 
-pub returns-in-None-clause-meets : goal.returns-in-None-clause-meets
-returns-in-None-clause-meets c =
+pub returns-in-None : goal.returns-in-None
+returns-in-None c =
     IfOk-weaker c.prove_length.result _ _
     (λ yes meets e. meets_stream c.args.set.now c.args.stream.now c.requires.stream.named (subst (λ (t : Stream). Meets c.args.set.now (unrolled t)) c.requires.twin_is (meets e)))
     c.prove_length.ensures.unrolled

@@ -8,12 +8,10 @@ use Rattle.raw_term.specs.Claims.{Meets}
 use Rattle.raw_row_terms.specs.RowClaims.{HasRows, HasPortsOf, misfed}
 use Rattle.raw_row_terms.specs.Right.{MeetsRows}
 use Rattle.raw_rows.specs.Lengths.{LengthProof, IsLengthProof, HasRoomFor}
-use Rattle.raw_cut.proofs.Same.{same_then}
 use Rattle.raw_lengths.specs.Proofs.{proof_of}
-use Rattle.raw_lengths.proofs.Passing.{proof_same}
 use Rattle.raw_lengths.proofs.Rooms.{room_at}
-use Rattle.raw_lengths.proofs.proving.is_proved.Goals as goal
-use Rattle.raw_lengths.proofs.proving.is_proved.Goals.{After-is_length_proof}
+use Rattle.raw_lengths.proofs.proving.prove_length.Goals as goal
+use Rattle.raw_lengths.proofs.proving.prove_length.Goals.{After-is_length_proof}
 
 -- what a law says of a set that has room for what a proof takes
 by_law : (R : ProgramSet → Stream → Type 0)
@@ -29,14 +27,11 @@ by_law R law c =
       steps = subst (λ (g : ProgramSet). w.first_limit + w.kernels * w.limit + w.last_limit ≤ g.limit) c.set.view_is (c.has_steps.ensures c.if-not-has_steps.false);
     } in
     IfOk-weaker c.is_length_proof.result _ _
-    (λ yes proof e. law set s w valid c.requires.rows c.requires.ports c.requires.counts (proof_same set c.find_length_proof.new.set c.find_length_proof.ensures s w (proof e)) room)
-    c.is_length_proof.ensures.proof
+    (λ yes proof e. law set s w valid c.requires.rows c.requires.ports c.requires.counts (proof e) room)
+    c.is_length_proof.ensures
 
 pub returns-clause-meets : goal.returns-clause-meets
 returns-clause-meets c = by_law MeetsRows c.law_lengths.ensures.rows (goal.at.returns-clause-meets c).After-is_length_proof
 
 pub returns-clause-unrolled : goal.returns-clause-unrolled
 returns-clause-unrolled c = by_law (λ set s. Meets set (unrolled s)) c.law_lengths.ensures.unrolled (goal.at.returns-clause-unrolled c).After-is_length_proof
-
-pub returns-clause-same : goal.returns-clause-same
-returns-clause-same c = same_then c.args.set.now c.find_length_proof.new.set c.is_length_proof.new.set c.find_length_proof.ensures c.is_length_proof.ensures.same
