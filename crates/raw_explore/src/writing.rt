@@ -13,7 +13,7 @@ ghost use Rattle.raw_trace.specs.Whole.{whole_lines};
 ghost use Rattle.raw_whole.specs.Kept.{IsWhole};
 ghost use Rattle.raw_explore.specs.Engine.{IsAt, AreTurnsBefore, IsOpened};
 
-use crate::cycle::{step_to, step_to_rest};
+use crate::cycle::step_to;
 use crate::line::{Line, put_line};
 use crate::lines::begin_line;
 use crate::opening::Opened;
@@ -153,6 +153,6 @@ pub fn write_trace<K: Sink>(
     machine.restart();
     put_lines(&mut machine, &fresh, window, out)?;
     put_all(out, b"counts\n")?;
-    step_to_rest(&mut machine, window.end, ran.cycles);
+    step_to(&mut machine, window.end, ran.cycles);
     write_cycles(&machine, outcome, &ran, out)
 }

@@ -29,8 +29,8 @@ parts set first many =
     ∙ ap (λ xs. flat_map (λ p. flat_map line_text (state_line set (clock set first) p)) (range_with_len 0 (proc_count set.topo)) ++ xs)
     (flat_flat line_text (cycle_lines set first) (range_with_len first many)))
 
-pub step_to-requires-clause-at : goal.step_to-requires-clause-at
-step_to-requires-clause-at g c = fresh_told c.args.machine.now.set c.set-set.ensures.valid c.args.machine.now c.requires.machine
+pub step_to-requires : goal.step_to-requires
+step_to-requires g c = fresh_told c.args.machine.now.set c.set-set.ensures.valid c.args.machine.now c.requires.machine
 
 pub put_states-requires-clause-fresh : goal.put_states-requires-clause-fresh
 put_states-requires-clause-fresh g c = subst (λ set. IsFresh set c.args.fresh.now) (sym c.step_to.ensures.set) c.requires.fresh

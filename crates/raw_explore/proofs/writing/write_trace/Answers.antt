@@ -16,6 +16,7 @@ use Rattle.raw_state_text.proofs.Sections.{nothing_yet, one_more, failed, last_p
 use Rattle.raw_trace.specs.Lines.{Begins, cycle_lines, state_line, first_told, past_told, positions, trace_lines}
 use Rattle.raw_trace.specs.Text.{line_text, trace_text}
 use Rattle.raw_trace.specs.Whole.{whole_lines}
+use Rattle.raw_explore.proofs.Resting.{state_at_rest}
 use Rattle.raw_explore.proofs.writing.write_trace.Goals as goal
 
 -- the text of a trace by the window of its cycles
@@ -103,23 +104,25 @@ pub write_cycles-requires-clause-outcome : goal.write_cycles-requires-clause-out
 write_cycles-requires-clause-outcome g c =
     let n = c.args.opened.ran.cycles in
     let answer = c.args.opened.outcome in
-    let here = c.step_to_rest.ensures.set in
-    let same : c.step_to_rest.new.machine.set ≡ c.args.opened.machine.set = c.step_to_rest.ensures.set ∙ c.in_ok-put_lines.ensures.set ∙ c.restart.ensures.set in
-    let state = c.step_to_rest.ensures.state ∙ ap (λ s. machine_at (clock s n)) (sym here) in
-    subst (λ s. told (waits_for c.step_to_rest.new.machine.set s) answer ≡ outcome c.step_to_rest.new.machine.set s) (sym state)
+    let same : c.step_to.new.machine.set ≡ c.args.opened.machine.set = c.step_to.ensures.set ∙ c.in_ok-put_lines.ensures.set ∙ c.restart.ensures.set in
+    let state =
+    state_at_rest c.args.opened.machine.set c.requires.valid n c.requires.cycles c.step_to.new.machine c.new-window.result.end same c.step_to.ensures.at c.new-window.ensures.ended
+    ∙ ap (λ s. machine_at (clock s n)) (sym same) in
+    subst (λ s. told (waits_for c.step_to.new.machine.set s) answer ≡ outcome c.step_to.new.machine.set s) (sym state)
     (subst (λ s. told (waits_for s (machine_at (clock s n))) answer ≡ outcome s (machine_at (clock s n))) (sym same) c.requires.rest)
 
 pub write_cycles-requires-clause-counted : goal.write_cycles-requires-clause-counted
 write_cycles-requires-clause-counted g c =
     let ran = c.args.opened.ran in
-    let here = c.step_to_rest.ensures.set in
-    let same : c.step_to_rest.new.machine.set ≡ c.args.opened.machine.set = c.step_to_rest.ensures.set ∙ c.in_ok-put_lines.ensures.set ∙ c.restart.ensures.set in
+    let same : c.step_to.new.machine.set ≡ c.args.opened.machine.set = c.step_to.ensures.set ∙ c.in_ok-put_lines.ensures.set ∙ c.restart.ensures.set in
     record {
       cycles = subst (λ s. HasCycles s ran.cycles) (sym same) c.requires.cycles;
       steps = c.requires.steps ∙ ap (λ s. program_steps s ran.cycles) (sym same);
       tally = subst (λ s. IsTally s ran.cycles ran.tally) (sym same) c.requires.tally;
       passed = subst (λ s. HaveSent s (clock_turns s ran.cycles) ran.passed.items) (sym same) c.requires.passed;
-      state = c.step_to_rest.ensures.state ∙ ap (λ s. machine_at (clock s ran.cycles)) (sym here);
+      state =
+          state_at_rest c.args.opened.machine.set c.requires.valid ran.cycles c.requires.cycles c.step_to.new.machine c.new-window.result.end same c.step_to.ensures.at c.new-window.ensures.ended
+          ∙ ap (λ s. machine_at (clock s ran.cycles)) (sym same);
     }
 
 pub returns : goal.returns
@@ -135,7 +138,7 @@ returns g c =
     (λ (s : ProgramSet). flat_map line_text
     (Begins first ∷ (flat_map (state_line s (clock s first)) (range_with_len 0 (proc_count s.topo)) ++ flat_map (cycle_lines s first) (range_with_len first many))))
     c.restart.ensures.set in
-    let same : c.step_to_rest.new.machine.set ≡ c.args.opened.machine.set = c.step_to_rest.ensures.set ∙ c.in_ok-put_lines.ensures.set ∙ c.restart.ensures.set in
+    let same : c.step_to.new.machine.set ≡ c.args.opened.machine.set = c.step_to.ensures.set ∙ c.in_ok-put_lines.ensures.set ∙ c.restart.ensures.set in
     let last = ap (λ s. cycles_text s c.args.opened.ran.cycles) same in
     last_part _ _ _ _ _ _ _
     (one_more _ _ _ _ _ _ _ (one_more _ _ _ _ _ _ _ (one_more _ _ _ _ _ _ _ (one_more _ _ _ _ _ _ _ (nothing_yet _ _) parts {T = Unit {0}} {E = Failed} tt (same_text _ _ _ _ _ text (record { ok = c.in_ok-put_all.ensures.ok; front = c.in_ok-put_all.ensures.front; fault = c.in_ok-put_all.ensures.fault; count = c.in_ok-put_all.ensures.count }))) refl _ c.in_ok-put_whole.ensures) refl _ (same_text _ _ _ _ _ later c.in_ok-put_lines.ensures.writes)) refl {T = Unit {0}} {E = Failed} tt (record { ok = c.in_ok-put_all-2.ensures.ok; front = c.in_ok-put_all-2.ensures.front; fault = c.in_ok-put_all-2.ensures.fault; count = c.in_ok-put_all-2.ensures.count })) refl
