@@ -41,6 +41,17 @@ fn put_verdict<K: Sink>(found: &Depths, out: &mut K) -> Result<(), Failed>
     }
 }
 
+// Puts the lines of the depths, and the depths from which on reports are the same and cycles are fewest.
+#[tactic(auto, using(raw_io::proofs::Chains::chained))]
+fn put_found<K: Sink>(found: &Depths, out: &mut K) -> Result<(), Failed>
+    ensures { Writes (K.sight out.old) (K.sight out.new)
+        (lines_of 1 found.now.rests.items ++ (same_line found.now.same_from ++ fastest_line found.now.fastest_from)) result }
+{
+    put_rests(found, out)?;
+    put_line(&same_line(found.same_from), out)?;
+    put_line(&fastest_line(found.fastest_from), out)
+}
+
 /// Writes what was found of a set at each depth: a line for each depth, the least depth from which all greater ones have
 /// the same report, the least one at which the set has the fewest cycles, and the verdict. It takes no memory.
 ///
@@ -50,8 +61,6 @@ pub fn write_depths<K: Sink>(found: &Depths, out: &mut K) -> Result<(), Failed>
         (K.sight out.old) (K.sight out.new)
         (depths_text set) result }
 {
-    put_rests(found, out)?;
-    put_line(&same_line(found.same_from), out)?;
-    put_line(&fastest_line(found.fastest_from), out)?;
+    put_found(found, out)?;
     put_verdict(found, out)
 }
